@@ -1,0 +1,134 @@
+-- Document 01, "Runs worked by hand": C1 to C8, C11 and C12, one table under a single statement. Assumes nothing.
+use Prim.Native.Nat.{ℕ}
+use mathlib.Core.Path.{_≡_, refl}
+use mathlib.Core.List.{List, [], _∷_, _++_, map}
+use Rattle.base.specs.Find.{first, firstOf, count}
+use Rattle.model.specs.Model.{jobCount, due, rank, ready, existing}
+use Rattle.model.specs.File.{bytesOf, bytes, gate, gateTask, runAt, readRecords, readTasks, read}
+use Rattle.model.specs.Answers.{Five, five}
+use Rattle.model.specs.Carry.{Carried, opening, atInstant, atEachInstant, carried, gateCarry, carriedFile, carryRun, carry}
+use Rattle.model.specs.Compute.Limits.{settingInRange, taskInRange, badTask}
+use Rattle.model.specs.Compute.Places.{find, lowest}
+use Rattle.model.specs.Compute.Verdict.{lateCount, timely, verdict, check}
+
+-- A call of the library, and what comes of it: the five numbers, and the bytes written to an output with room for the longest file.
+pub data Call : Type 0 where
+  checks : List ℕ → Call
+  carries : List ℕ → ℕ → Call
+
+abbrev pub outcome : Call → Carried
+outcome (checks b) = record { told = check b; writes = [] }
+outcome (carries b H′) = carry b H′ 12948
+
+abbrev pub told : Five → Carried
+told f = record { told = f; writes = [] }
+
+-- A file: the setting's count and numbers, the tasks' count and numbers, the records' count and numbers.
+abbrev pub file : ℕ → ℕ → List ℕ → List ℕ → List ℕ
+file N H tasks records = bytesOf ((2 ∷ N ∷ H ∷ []) ++ tasks ++ records)
+
+-- Set S: P, B, W, O, J.
+abbrev S : List ℕ
+S =
+    4
+    ∷ 10 ∷ 1 ∷ 2 ∷ 0 ∷ 1
+    ∷ 30 ∷ 6 ∷ 8 ∷ 0 ∷ 1
+    ∷ 60 ∷ 15 ∷ 17 ∷ 0 ∷ 2
+    ∷ 60 ∷ 15 ∷ 20 ∷ 0 ∷ 2
+    ∷ []
+
+-- Records: task, job, r, s, e, core.
+abbrev last-two : List ℕ
+last-two =
+    2 ∷ 0 ∷ 0 ∷ 0 ∷ 17 ∷ 1
+    ∷ 3 ∷ 0 ∷ 0 ∷ 0 ∷ 15 ∷ 2
+    ∷ []
+
+abbrev C1 : List ℕ
+C1 =
+    file 2 20 S
+    ((5
+    ∷ 0 ∷ 0 ∷ 1 ∷ 15 ∷ 17 ∷ 2
+    ∷ 0 ∷ 1 ∷ 10 ∷ 17 ∷ 19 ∷ 1
+    ∷ 1 ∷ 0 ∷ 1 ∷ 17 ∷ 25 ∷ 2
+    ∷ []) ++ last-two)
+
+abbrev C2 : List ℕ
+C2 =
+    file 2 10 S
+    ((4
+    ∷ 0 ∷ 0 ∷ 1 ∷ 15 ∷ 17 ∷ 2
+    ∷ 1 ∷ 0 ∷ 1 ∷ 17 ∷ 25 ∷ 1
+    ∷ []) ++ last-two)
+
+-- C1 with H 30 and one more record after record 1
+abbrev C4 : List ℕ
+C4 =
+    file 2 30 S
+    ((6
+    ∷ 0 ∷ 0 ∷ 1 ∷ 15 ∷ 17 ∷ 2
+    ∷ 0 ∷ 1 ∷ 10 ∷ 17 ∷ 19 ∷ 1
+    ∷ 0 ∷ 2 ∷ 20 ∷ 20 ∷ 22 ∷ 1
+    ∷ 1 ∷ 0 ∷ 1 ∷ 17 ∷ 25 ∷ 2
+    ∷ []) ++ last-two)
+
+abbrev pub C5 : List ℕ
+C5 =
+    file 2 10
+    (4
+    ∷ 20 ∷ 5 ∷ 5 ∷ 0 ∷ 0
+    ∷ 20 ∷ 5 ∷ 5 ∷ 5 ∷ 0
+    ∷ 20 ∷ 1 ∷ 1 ∷ 5 ∷ 0
+    ∷ 100 ∷ 3 ∷ 3 ∷ 2 ∷ 0
+    ∷ [])
+    (4
+    ∷ 0 ∷ 0 ∷ 0 ∷ 0 ∷ 5 ∷ 1
+    ∷ 1 ∷ 0 ∷ 5 ∷ 5 ∷ 10 ∷ 1
+    ∷ 2 ∷ 0 ∷ 5 ∷ 5 ∷ 6 ∷ 2
+    ∷ 3 ∷ 0 ∷ 2 ∷ 6 ∷ 9 ∷ 2
+    ∷ [])
+
+-- C1 with record 0 ending at 18
+abbrev C6 : List ℕ
+C6 =
+    file 2 20 S
+    ((5
+    ∷ 0 ∷ 0 ∷ 1 ∷ 15 ∷ 18 ∷ 2
+    ∷ 0 ∷ 1 ∷ 10 ∷ 17 ∷ 19 ∷ 1
+    ∷ 1 ∷ 0 ∷ 1 ∷ 17 ∷ 25 ∷ 2
+    ∷ []) ++ last-two)
+
+-- C1 without its last record
+abbrev C7 : List ℕ
+C7 =
+    file 2 20 S
+    (4
+    ∷ 0 ∷ 0 ∷ 1 ∷ 15 ∷ 17 ∷ 2
+    ∷ 0 ∷ 1 ∷ 10 ∷ 17 ∷ 19 ∷ 1
+    ∷ 1 ∷ 0 ∷ 1 ∷ 17 ∷ 25 ∷ 2
+    ∷ 2 ∷ 0 ∷ 0 ∷ 0 ∷ 17 ∷ 1
+    ∷ [])
+
+abbrev C11 : List ℕ
+C11 = file 1 1 (1 ∷ 1 ∷ 1 ∷ 1 ∷ 1 ∷ 0 ∷ []) (0 ∷ [])
+
+abbrev pub table : List (Call × Carried)
+table =
+    (checks C1, told (five 1 1 0 0 0))
+    ∷ (checks C2, told (five 2 1 0 0 0))
+    -- C3
+    ∷ (carries C2 20, record { told = five 5 220 0 0 0; writes = C1 })
+    ∷ (carries C1 30, record { told = five 5 244 0 0 0; writes = C4 })
+    ∷ (checks C5, told (five 3 8 3 2 2))
+    ∷ (checks C6, told (five 3 4 0 0 0))
+    ∷ (checks C7, told (five 3 1 4 0 0))
+    -- C8: no bytes
+    ∷ (checks [], told (five 4 1 0 0 0))
+    ∷ (checks C11, told (five 0 0 0 0 0))
+    -- C12
+    ∷ (carries C1 19, told (five 4 9 0 0 0))
+    ∷ []
+
+pub worked : map (λ row. outcome (row .0)) table ≡ map (λ row. row .1) table
+unfolding first firstOf count jobCount due rank ready existing bytes gate gateTask runAt readRecords readTasks read opening atInstant atEachInstant carried gateCarry carriedFile carryRun carry settingInRange taskInRange badTask find lowest lateCount timely verdict check
+worked = refl

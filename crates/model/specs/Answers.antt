@@ -1,0 +1,77 @@
+-- Document 01, "What the checker says".
+use Prim.Native.Nat.{ℕ, zero, suc, _+_, _<_}
+use mathlib.Core.Path.{_≡_}
+use mathlib.Core.List.{List}
+use lib.ListN.{length}
+use Rattle.base.specs.First.{First, Number}
+use Rattle.model.specs.Model.{Run, IsRecord, rec, due}
+use Rattle.model.specs.File.{refused, whole, read}
+use Rattle.model.specs.Rules.{Rule, rule1, rule2, rule3, rule4, rule5, rule6, rule7, rule8, Holds, Obeys, Place, FirstPlace}
+
+-- An answer is five numbers: answer, code, and three for the place.
+-- -----------------------------------------------------------------
+pub record Five : Type 0 where
+  pub answer : ℕ
+  pub code : ℕ
+  pub place : Place
+
+abbrev pub five : ℕ → ℕ → ℕ → ℕ → ℕ → Five
+five a c x y z = record { answer = a; code = c; place = record { x = x; y = y; z = z } }
+
+-- The table: 0 accepted, no job late; 1 accepted, some late job begins before H; 2 accepted, late jobs exist, none begins before
+-- H; 3 a rule is broken; 4 refused; 5 carried.
+abbrev pub inTime : Five
+inTime = five 0 0 0 0 0
+
+abbrev pub lateBeforeH : ℕ → ℕ → Five
+lateBeforeH n k = five 1 n k 0 0
+
+abbrev pub lateFromH : ℕ → ℕ → Five
+lateFromH n k = five 2 n k 0 0
+
+abbrev pub ruleBroken : ℕ → Place → Five
+ruleBroken ν p = record { answer = 3; code = ν; place = p }
+
+abbrev pub refusal : ℕ → ℕ → Five
+refusal ν i = five 4 ν i 0 0
+
+abbrev pub carriedTo : ℕ → Five
+carriedTo n = five 5 n 0 0 0
+
+-- What each row is given for.
+-- ---------------------------
+abbrev pub number : Rule → ℕ
+number rule1 = 1
+number rule2 = 2
+number rule3 = 3
+number rule4 = 4
+number rule5 = 5
+number rule6 = 6
+number rule7 = 7
+number rule8 = 8
+
+module _ (ρ : Run) where
+  -- Late means e > deadline.
+  abbrev pub Late : ℕ → Type 0
+  Late k = IsRecord ρ k × (due ρ k < rec ρ k .end)
+
+  abbrev pub BeginsBeforeH : ℕ → Type 0
+  BeginsBeforeH k = rec ρ k .start < ρ .setting .horizon
+
+  -- number of late records
+  abbrev pub LateRecords : ℕ → Type 0
+  LateRecords n = Number Late (length (ρ .records)) n
+
+-- What is said of a run: its five numbers.
+pub data Verdict (ρ : Run) : Five → Type 0 where
+  in-time : Obeys ρ → ((k : ℕ) → ¬ Late ρ k) → Verdict ρ inTime
+  late-before-H : {n k : ℕ} → Obeys ρ → LateRecords ρ n → First _<_ (λ k. Late ρ k × BeginsBeforeH ρ k) k → Verdict ρ (lateBeforeH n k)
+  late-from-H : {n k : ℕ} → Obeys ρ → LateRecords ρ n → ((k : ℕ) → Late ρ k → ¬ BeginsBeforeH ρ k) → First _<_ (Late ρ) k
+      → Verdict ρ (lateFromH n k)
+  rule-broken : {p : Place} (ν : Rule) → ((μ : Rule) → number μ < number ν → Holds μ ρ) → FirstPlace ν ρ p
+      → Verdict ρ (ruleBroken (number ν) p)
+
+-- What is said of a file.
+pub data Answered (b : List ℕ) : Five → Type 0 where
+  not-read : {ν i : ℕ} → read b ≡ refused ν i → Answered b (refusal ν i)
+  judged : {ρ : Run} {f : Five} → read b ≡ whole ρ → Verdict ρ f → Answered b f

@@ -1,0 +1,54 @@
+-- Document 01, "What the checker says": the host calls check and carry with byte slices. What a call returns, and the full
+-- contents of every lent slice afterwards.
+use Prim.Native.Nat.{ℕ}
+use mathlib.Core.Bool.{Bool, true, false}
+use mathlib.Core.List.{List, [], _∷_, _++_}
+use lib.Dec.{ltb}
+use lib.ListN.{length, drop}
+use Rattle.model.specs.File.{bytesOf}
+use Rattle.model.specs.Answers.{Five}
+use Rattle.model.specs.Carry.{Carried, carry}
+use Rattle.model.specs.Compute.Verdict.{check}
+
+-- Each call returns the answer number and writes the five numbers into the first 20 bytes of a lent answer slice.
+abbrev pub answerSize : ℕ
+answerSize = 20
+
+abbrev pub numbers : Five → List ℕ
+numbers f = f .answer ∷ f .code ∷ f .place .x ∷ f .place .y ∷ f .place .z ∷ []
+
+-- bytes at the front of a slice; those after them never change
+abbrev pub front : List ℕ → List ℕ → List ℕ
+front bytes slice = bytes ++ drop (length bytes) slice
+
+abbrev pub written : Five → List ℕ → List ℕ
+written f answer = front (bytesOf (numbers f)) answer
+
+abbrev pub tooShort : List ℕ → Bool
+tooShort answer = ltb (length answer) answerSize
+
+pub record CheckCall : Type 0 where
+  pub returns : ℕ
+  pub answer : List ℕ
+
+-- A shorter answer slice is met first of all: the call returns 4 and no byte of any slice changes.
+abbrev pub checkCallIf : Bool → Five → List ℕ → CheckCall
+checkCallIf true f answer = record { returns = 4; answer = answer }
+checkCallIf false f answer = record { returns = f .answer; answer = written f answer }
+
+unfoldable pub checkCall : List ℕ → List ℕ → CheckCall
+checkCall file answer = checkCallIf (tooShort answer) (check file) answer
+
+pub record CarryCall : Type 0 where
+  pub returns : ℕ
+  pub output : List ℕ
+  pub answer : List ℕ
+
+-- Every other refusal fills those 20 bytes and changes no other byte: it writes nothing to the output.
+abbrev pub carryCallIf : Bool → Carried → List ℕ → List ℕ → CarryCall
+carryCallIf true o output answer = record { returns = 4; output = output; answer = answer }
+carryCallIf false o output answer =
+    record { returns = o .told .answer; output = front (o .writes) output; answer = written (o .told) answer }
+
+unfoldable pub carryCall : List ℕ → ℕ → List ℕ → List ℕ → CarryCall
+carryCall file H′ output answer = carryCallIf (tooShort answer) (carry file H′ (length output)) output answer

@@ -1,0 +1,8 @@
+// The types of a run. What they mean stands in specs/, a file for each section of the paper.
+mod record;
+mod setting;
+mod task;
+
+pub use record::Record;
+pub use setting::Setting;
+pub use task::Task;
