@@ -1,2 +1,10 @@
+pub mod Jobs
+pub mod Limits
+pub mod Tests
+pub mod Places
+pub mod Lowest
+pub mod Verdict
+pub mod Demand1
+pub mod Demand2
 pub mod Worked
 pub mod Readings

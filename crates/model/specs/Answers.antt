@@ -53,7 +53,7 @@ number rule8 = 8
 module _ (ρ : Run) where
   -- Late means e > deadline.
   abbrev pub Late : ℕ → Type 0
-  Late k = IsRecord ρ k × (due ρ k < rec ρ k .end)
+  Late k = due ρ k < rec ρ k .end
 
   abbrev pub BeginsBeforeH : ℕ → Type 0
   BeginsBeforeH k = rec ρ k .start < ρ .setting .horizon
@@ -64,10 +64,11 @@ module _ (ρ : Run) where
 
 -- What is said of a run: its five numbers.
 pub data Verdict (ρ : Run) : Five → Type 0 where
-  in-time : Obeys ρ → ((k : ℕ) → ¬ Late ρ k) → Verdict ρ inTime
-  late-before-H : {n k : ℕ} → Obeys ρ → LateRecords ρ n → First _<_ (λ k. Late ρ k × BeginsBeforeH ρ k) k → Verdict ρ (lateBeforeH n k)
-  late-from-H : {n k : ℕ} → Obeys ρ → LateRecords ρ n → ((k : ℕ) → Late ρ k → ¬ BeginsBeforeH ρ k) → First _<_ (Late ρ) k
-      → Verdict ρ (lateFromH n k)
+  in-time : Obeys ρ → ((k : ℕ) → IsRecord ρ k → ¬ Late ρ k) → Verdict ρ inTime
+  late-before-H : {n k : ℕ} → Obeys ρ → LateRecords ρ n → First _<_ (λ k. IsRecord ρ k × Late ρ k × BeginsBeforeH ρ k) k
+      → Verdict ρ (lateBeforeH n k)
+  late-from-H : {n k : ℕ} → Obeys ρ → LateRecords ρ n → ((k : ℕ) → IsRecord ρ k → Late ρ k → ¬ BeginsBeforeH ρ k)
+      → First _<_ (λ k. IsRecord ρ k × Late ρ k) k → Verdict ρ (lateFromH n k)
   rule-broken : {p : Place} (ν : Rule) → ((μ : Rule) → number μ < number ν → Holds μ ρ) → FirstPlace ν ρ p
       → Verdict ρ (ruleBroken (number ν) p)
 
