@@ -1,5 +1,8 @@
 pub mod Jobs
 pub mod Limits
+pub mod Reading
+pub mod RoundTrip
+pub mod Prefix
 pub mod Tests
 pub mod Places
 pub mod Lowest
@@ -7,4 +10,5 @@ pub mod Verdict
 pub mod Demand1
 pub mod Demand2
 pub mod Worked
-pub mod Readings
+pub mod FourReadings
+pub mod Borders

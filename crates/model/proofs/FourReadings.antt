@@ -3,14 +3,9 @@
 use Prim.Native.Nat.{ℕ}
 use mathlib.Core.Path.{_≡_, refl}
 use mathlib.Core.List.{List, [], _∷_, _++_, map}
-use Rattle.base.specs.Find.{first, firstOf, count}
-use Rattle.model.specs.Model.{jobCount, due, rank, ready, existing}
-use Rattle.model.specs.File.{gate, gateTask, runAt, readRecords, readTasks, read}
 use Rattle.model.specs.Answers.{Five, five}
-use Rattle.model.specs.Compute.Limits.{settingInRange, taskInRange, badTask}
-use Rattle.model.specs.Compute.Places.{find, lowest}
-use Rattle.model.specs.Compute.Verdict.{lateCount, timely, verdict, check}
-use Rattle.model.proofs.Worked.{file, C5}
+use Rattle.model.specs.Compute.Verdict.{check}
+use Rattle.model.proofs.Worked.{file, computed, C5}
 
 -- Asking only that all cores were busy just before the start: core 1 idles from 0 to 1 while task 0 waits, and is busy from 1 to 2.
 abbrev busy-just-before : List ℕ
@@ -63,5 +58,5 @@ table =
     ∷ []
 
 pub right-readings : map (λ row. check (row .0)) table ≡ map (λ row. row .1) table
-unfolding first firstOf count jobCount due rank ready existing gate gateTask runAt readRecords readTasks read settingInRange taskInRange badTask find lowest lateCount timely verdict check
+unfolding computed
 right-readings = refl
