@@ -5,7 +5,7 @@ use mathlib.Core.Logic.{_⊎_, inl, inr, _↔_}
 use mathlib.Core.List.{List, [], _∷_, _++_}
 use native.Mathlib.Omega.{arith}
 use native.Mathlib.Decide.{decLt}
-use native.Mathlib.Nat.{not-suc-le-zero, le-of-suc-le-suc, le-div-iff-mul-le, add-zero, div-zero}
+use native.Mathlib.Nat.{not-suc-le-zero, le-of-suc-le-suc, le-div-iff-mul-le, add-zero, div-zero, add-div-right}
 use lib.ListN.{length, getD, length-append, List·getD-append}
 use lib.Seq.{getD-append-add}
 use Rattle.model.specs.declared.task.Task.{Task}
@@ -34,6 +34,13 @@ no-job τ H h l = go (decLt 0 (jobCount τ H))
 pub no-period : (τ : Task) (H : ℕ) → τ .period ≡ 0 → jobCount τ H ≡ 0
 unfolding jobCount
 no-period τ H e = ap (λ p. ((H - τ .offset) + (τ .period - 1)) / p) e ∙ div-zero _
+
+-- Rounded up is one more than rounded down below it, which fits where the sum may not.
+pub some-jobs : (τ : Task) (H : ℕ) → 1 ≤ τ .period → τ .offset < H → (H - τ .offset - 1) / τ .period + 1 ≡ jobCount τ H
+unfolding jobCount
+some-jobs τ H h l =
+    let e : (H - τ .offset - 1) + τ .period ≡ (H - τ .offset) + (τ .period - 1) = omega arith in
+    sym (add-div-right (H - τ .offset - 1) h) ∙ ap (λ n. n / τ .period) e
 
 -- The jobs of tasks with so many jobs each
 -- ----------------------------------------

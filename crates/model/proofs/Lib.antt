@@ -1,4 +1,5 @@
 pub mod Jobs
+pub mod Fits
 pub mod Limits
 pub mod Reading
 pub mod RoundTrip
