@@ -99,6 +99,11 @@ pub data Read : Type 0 where
   refused : ℕ → ℕ → Read
   whole : Run → Read
 
+-- the refusal of a file, by its number and task, if it is refused
+abbrev pub refusalOf : Read → Option (ℕ × ℕ)
+refusalOf (refused ν i) = some (ν, i)
+refusalOf (whole ρ) = none
+
 -- refused with a number, unless the test passes
 unfoldable pub gate : ℕ → Bool → Read → Read
 gate ν true r = r
@@ -110,6 +115,10 @@ gateTask none r = r
 gateTask (some i) r = refused 5 i
 
 module _ (b : List ℕ) where
+  -- the tasks of a file that says that it has n
+  abbrev pub tasksIn : ℕ → List Task
+  tasksIn n = entries (taskAt b) taskSize (tasksPlace + 4) n
+
   -- the first k bytes are there
   abbrev pub has : ℕ → Bool
   has k = leb k (length b)
@@ -133,7 +142,7 @@ module _ (b : List ℕ) where
   unfoldable pub readTasks : Setting → Read
   readTasks σ =
       let n = num b tasksPlace in
-      let τs = entries (taskAt b) taskSize (tasksPlace + 4) n in
+      let τs = tasksIn n in
       gate 1 (has (tasksPlace + 4))
       (gate 4 (within 1 mostTasks n)
       (gate 1 (has (recordsPlace n))

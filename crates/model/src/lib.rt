@@ -2,7 +2,9 @@
 mod record;
 mod setting;
 mod task;
+mod tasks;
 
 pub use record::Record;
 pub use setting::Setting;
 pub use task::Task;
+pub use tasks::Tasks;
