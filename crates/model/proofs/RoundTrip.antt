@@ -19,13 +19,13 @@ use Rattle.model.proofs.Reading.{gate-whole, gateTask-whole}
 -- ----------------------
 
 -- a record, so that the list can be inferred
-record Fits (vs : List ℕ) : Type 0 where
-  at : (k : ℕ) → FourBytes (getD vs k 0)
+pub record Fits (vs : List ℕ) : Type 0 where
+  pub at : (k : ℕ) → FourBytes (getD vs k 0)
 
-fits-nil : Fits []
+pub fits-nil : Fits []
 fits-nil = record { at = λ k. omega arith }
 
-fits-cons : {v : ℕ} {vs : List ℕ} → FourBytes v → Fits vs → Fits (v ∷ vs)
+pub fits-cons : {v : ℕ} {vs : List ℕ} → FourBytes v → Fits vs → Fits (v ∷ vs)
 fits-cons {v} {vs} h F = record { at = go }
   where
     go : (k : ℕ) → FourBytes (getD (v ∷ vs) k 0)

@@ -63,7 +63,7 @@ module _ (ρ : Run) where
           (finds-some LateRecord (some k) A total-number k .0 refl)
       go none none E A = Verdict.in-time O (λ k h l. finds-none LateRecord none A .0 refl k (h, l))
 
-  accepted : Obeys ρ → verdict ρ ≡ timely ρ
+  pub accepted : Obeys ρ → verdict ρ ≡ timely ρ
   unfolding verdict
   accepted O = rw (lowest-none ρ .1 O)
 

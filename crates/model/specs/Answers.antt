@@ -4,6 +4,8 @@ use mathlib.Core.Path.{_≡_}
 use mathlib.Core.List.{List}
 use lib.ListN.{length}
 use Rattle.base.specs.First.{First, Number}
+use Rattle.model.specs.declared.answer.Answer.{Answer}
+use Rattle.model.specs.declared.answer.Answer.the-variants.{InTime, LateBeforeH, LateFromH, RuleBroken, Refused, Carried}
 use Rattle.model.specs.Model.{Run, IsRecord, rec, due}
 use Rattle.model.specs.File.{refused, whole, read}
 use Rattle.model.specs.Rules.{Rule, rule1, rule2, rule3, rule4, rule5, rule6, rule7, rule8, Holds, Obeys, Place, FirstPlace}
@@ -37,6 +39,15 @@ refusal ν i = five 4 ν i 0 0
 
 abbrev pub carriedTo : ℕ → Five
 carriedTo n = five 5 n 0 0 0
+
+-- An answer of the program is an enum: the paper's five numbers for each of its cases.
+abbrev pub fiveOf : Answer → Five
+fiveOf InTime = inTime
+fiveOf (LateBeforeH n k) = lateBeforeH n k
+fiveOf (LateFromH n k) = lateFromH n k
+fiveOf (RuleBroken ν x y z) = ruleBroken ν (record { x = x; y = y; z = z })
+fiveOf (Refused ν i) = refusal ν i
+fiveOf (Carried n) = carriedTo n
 
 -- What each row is given for.
 -- ---------------------------

@@ -14,14 +14,14 @@ use Rattle.model.specs.Compute.Verdict.{check}
 abbrev pub answerSize : ℕ
 answerSize = 20
 
-abbrev pub numbers : Five → List ℕ
+unfoldable pub numbers : Five → List ℕ
 numbers f = f .answer ∷ f .code ∷ f .place .x ∷ f .place .y ∷ f .place .z ∷ []
 
 -- bytes at the front of a slice; those after them never change
 abbrev pub front : List ℕ → List ℕ → List ℕ
 front bytes slice = bytes ++ drop (length bytes) slice
 
-abbrev pub written : Five → List ℕ → List ℕ
+unfoldable pub written : Five → List ℕ → List ℕ
 written f answer = front (bytesOf (numbers f)) answer
 
 abbrev pub tooShort : List ℕ → Bool

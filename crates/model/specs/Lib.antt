@@ -5,4 +5,5 @@ pub mod Rules
 pub mod Answers
 pub mod Carry
 pub mod Calls
+pub mod Report
 pub mod Compute

@@ -1,0 +1,14 @@
+pub mod Depends
+pub mod Recorded
+pub mod Waiting
+pub mod Next
+pub mod Jumps
+pub mod Step
+pub mod Begin
+pub mod NextStart
+pub mod AtH
+pub mod Carried
+pub mod Shown
+pub mod Gates
+pub mod Demand3
+pub mod Widen

@@ -1,0 +1,45 @@
+-- The records of a run that obeys rule 1: each existing job has one, and only existing jobs do. Assumes nothing.
+use Prim.Native.Nat.{ℕ, zero, suc, _<_}
+use mathlib.Core.Path.{_≡_, refl, sym, _∙_, ap}
+use mathlib.Core.List.{List, [], _∷_, map}
+use native.Mathlib.Omega.{arith}
+use lib.ListN.{length, getD, length-map}
+use Rattle.model.specs.Model.{Run, Job, IsRecord, Exists, rec, taskOf, task, jobOf, jobs, totalJobs, noRecord}
+use Rattle.model.specs.Rules.{Jobs}
+use Rattle.carrying.proofs.Depends.{existing-jobs}
+use Rattle.model.proofs.Jobs.{Good, length-jobs, distinct, exists-iff}
+
+pub at-map : {A B : Type 0} (f : A → B) (l : List A) (k : ℕ) (b : B) (a : A) → k < length l → getD (map f l) k b ≡ f (getD l k a)
+at-map f [] k b a h = absurd (omega arith)
+at-map f (x ∷ l) zero b a h = refl
+at-map f (x ∷ l) (suc k) b a h = at-map f l k b a (omega arith)
+
+module _ (ρ : Run) (J : Jobs ρ) where
+  abbrev H : ℕ
+  H = ρ .setting .horizon
+
+  record-jobs : map jobOf (ρ .records) ≡ jobs (ρ .tasks) H
+  record-jobs = J ∙ existing-jobs ρ
+
+  job-count : length (ρ .records) ≡ length (jobs (ρ .tasks) H)
+  job-count = sym (length-map (ρ .records) jobOf) ∙ ap length record-jobs
+
+  pub record-total : length (ρ .records) ≡ totalJobs (ρ .tasks) H
+  record-total = job-count ∙ length-jobs (ρ .tasks) H
+
+  record-job : (k : ℕ) → IsRecord ρ k → jobOf (rec ρ k) ≡ getD (jobs (ρ .tasks) H) k (0, 0)
+  record-job k h = sym (at-map jobOf (ρ .records) k (0, 0) noRecord h) ∙ ap (λ l. getD l k (0, 0)) record-jobs
+
+  pub one-record : (a b : ℕ) → IsRecord ρ a → IsRecord ρ b → jobOf (rec ρ a) ≡ jobOf (rec ρ b) → a ≡ b
+  one-record a b h l e =
+      distinct (ρ .tasks) H a b (rw job-count at h) (rw job-count at l) (sym (record-job a h) ∙ e ∙ record-job b l)
+
+  module _ (good : Good (ρ .tasks)) where
+    pub record-exists : (k : ℕ) → IsRecord ρ k → (rec ρ k .task < length (ρ .tasks)) × Exists (taskOf ρ k) H (rec ρ k .job)
+    record-exists k h = exists-iff (ρ .tasks) H good (jobOf (rec ρ k)) .0 (k, rw job-count at h, sym (record-job k h))
+
+    pub has-record : (q : Job) → q .0 < length (ρ .tasks) → Exists (task (ρ .tasks) (q .0)) H (q .1) → (k : ℕ) × IsRecord ρ k × (jobOf (rec ρ k) ≡ q)
+    has-record q r l =
+        let (k, h, e) = exists-iff (ρ .tasks) H good q .1 (r, l) in
+        let x : IsRecord ρ k = rw job-count h in
+        (k, x, record-job k x ∙ e)

@@ -1,0 +1,51 @@
+use borrow.Author.Needs.{needs}
+use mathlib.Core.Path.{_≡_, ap}
+use lib.ListN.{getD}
+use denote.Ref.{now}
+use Rattle.model.specs.Answers.{fiveOf}
+use Rattle.model.specs.Calls.{numbers}
+use Rattle.wire.proofs.Putting.{five-put}
+use Rattle.wire.proofs.write_answer.Statement.{statement}
+use Rattle.wire.proofs.write_answer.Tie as tie
+
+numbers-of-requires : tie.Need-numbers-of-requires
+numbers-of-requires c κs = search needs
+
+put-u32-requires : tie.Need-put-u32-requires
+put-u32-requires c κs = search needs
+
+put-u32-requires-2 : tie.Need-put-u32-requires-2
+put-u32-requires-2 c κs = search needs
+
+put-u32-requires-3 : tie.Need-put-u32-requires-3
+put-u32-requires-3 c κs = search needs
+
+put-u32-requires-4 : tie.Need-put-u32-requires-4
+put-u32-requires-4 c κs = search needs
+
+put-u32-requires-5 : tie.Need-put-u32-requires-5
+put-u32-requires-5 c κs = search needs
+
+same-length : tie.Need-same-length
+same-length c = search needs
+
+returns : tie.Need-returns
+unfolding numbers
+returns c =
+    let start = c .before .before .before .before .before .before .before .before .before .before .before .before .before .before .before .before .before .before .before .before .before .before in
+    let n = c .before .before .before .before .before .before .before .before .before .before .before .before .before .before .before .before .before .before .before .before .numbers-of in
+    let e : n .result .answer ≡ fiveOf (start .args .a) .answer = ap (λ l. getD l 0 0) (n .ensures) in
+    (e, cc (five-put (fiveOf (start .args .a)) (now (start .args .answer)) (n .result .answer) (n .result .code) (n .result .x) (n .result .y) (n .result .z) (n .ensures)))
+
+pub write-answer-spec : {M : Type 1} → statement M
+write-answer-spec =
+    tie.close
+    (tie.spec
+    numbers-of-requires
+    put-u32-requires
+    put-u32-requires-2
+    put-u32-requires-3
+    put-u32-requires-4
+    put-u32-requires-5
+    same-length
+    returns)
