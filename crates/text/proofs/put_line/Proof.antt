@@ -1,0 +1,49 @@
+use borrow.Author.Needs.{needs}
+use native.Mathlib.Omega.{arith}
+use Rattle.text.proofs.Pasting.{wrote-more, wrote-line}
+use Rattle.text.proofs.put_line.Statement.{statement}
+use Rattle.text.proofs.put_line.Tie as tie
+
+put-number-requires : tie.Need-put-number-requires
+put-number-requires c κs = search needs
+
+put-number-requires-2 : tie.Need-put-number-requires-2
+put-number-requires-2 c κs = search needs
+
+put-number-requires-3 : tie.Need-put-number-requires-3
+put-number-requires-3 c κs = search needs
+
+put-number-requires-4 : tie.Need-put-number-requires-4
+put-number-requires-4 c κs = search needs
+
+put-number-requires-5 : tie.Need-put-number-requires-5
+put-number-requires-5 c κs = search needs
+
+same-length : tie.Need-same-length
+same-length c = search needs
+
+returns : tie.Need-returns
+returns c =
+    let five = c .before .before in
+    let four = five .before .before .before .before in
+    let three = four .before .before .before .before in
+    let two = three .before .before .before .before in
+    let one = two .before .before .before .before in
+    let n = one .before .before .before .args .n in
+    let w₂ = wrote-more (one .put-number .ensures .0) (two .put-number2 .ensures .0) (omega arith) in
+    let w₃ = wrote-more w₂ (three .put-number3 .ensures .0) (omega arith) in
+    let w₄ = wrote-more w₃ (four .put-number4 .ensures .0) (omega arith) in
+    let w = wrote-line (n .answer) (n .code) (n .x) (n .y) (n .z) (wrote-more w₄ (five .put-number5 .ensures .0) (omega arith)) in
+    (w .0, omega arith, w .1)
+
+pub put-line-spec : {M : Type 1} → statement M
+put-line-spec =
+    tie.close
+    (tie.spec
+    put-number-requires
+    put-number-requires-2
+    put-number-requires-3
+    put-number-requires-4
+    put-number-requires-5
+    same-length
+    returns)

@@ -1,0 +1,52 @@
+// The five numbers of an answer as a line of text.
+use wire::Numbers;
+ghost use mathlib.Core.Path.{_≡_};
+ghost use mathlib.Core.List.{[], _∷_, _++_};
+ghost use Prim.Native.Nat.{_+_, _≤_, _<_};
+ghost use lib.ListN.{length};
+ghost use Rattle.model.specs.Report.{decimal, line};
+ghost use Rattle.text.specs.Paste.{pasted, Wrote};
+
+// Writes a byte at a place: the place after it.
+fn put_byte(text: &mut [u8], at: usize, byte: u8) -> usize
+    requires { ⌜ at < length (now text) ⌝ }
+    ensures { λ r. ⌜ Wrote (now (text .entry)) at (byte ∷ []) (now (text .exit)) r ⌝ }
+{
+    text[at] = byte;
+    at + 1
+}
+
+// Writes a number's decimal digits from a place on: the place after them.
+fn put_decimal(text: &mut [u8], at: usize, v: u32) -> usize
+    requires { ⌜ at + length (decimal v) ≤ length (now text) ⌝ }
+    ensures { λ r. ⌜ Wrote (now (text .entry)) at (decimal v) (now (text .exit)) r ⌝ }
+{
+    if v < 10 {
+        return put_byte(text, at, 48 + v as u8);
+    }
+    let next = put_decimal(text, at, v / 10);
+    put_byte(text, next, 48 + (v % 10) as u8)
+}
+
+// Writes a number and a byte after it: the place after both.
+fn put_number(text: &mut [u8], at: usize, v: u32, byte: u8) -> usize
+    requires { ⌜ at + 11 ≤ length (now text) ⌝ }
+    ensures { λ r. ⌜ Wrote (now (text .entry)) at (decimal v ++ (byte ∷ [])) (now (text .exit)) r × (r ≤ at + 11) ⌝ }
+{
+    let next = put_decimal(text, at, v);
+    put_byte(text, next, byte)
+}
+
+// Writes the line at the front of a text: how long it is.
+pub fn put_line(text: &mut [u8], n: Numbers) -> usize
+    requires { ⌜ 64 ≤ length (now text) ⌝ }
+    ensures { λ r. ⌜ (r ≡ length (line (n .answer ∷ n .code ∷ n .x ∷ n .y ∷ n .z ∷ [])))
+        × (r ≤ 64)
+        × (now (text .exit) ≡ pasted (now (text .entry)) 0 (line (n .answer ∷ n .code ∷ n .x ∷ n .y ∷ n .z ∷ []))) ⌝ }
+{
+    let code = put_number(text, 0, n.answer, b' ');
+    let x = put_number(text, code, n.code, b' ');
+    let y = put_number(text, x, n.x, b' ');
+    let z = put_number(text, y, n.y, b' ');
+    put_number(text, z, n.z, b'\n')
+}
