@@ -49,11 +49,11 @@ some-jobs τ H h l =
 abbrev none : Job
 none = (0, 0)
 
-length-countUp : (i j n : ℕ) → length (countUp i j n) ≡ n
+pub length-countUp : (i j n : ℕ) → length (countUp i j n) ≡ n
 length-countUp i j zero = refl
 length-countUp i j (suc n) = ap suc (length-countUp i (suc j) n)
 
-at-countUp : (i j n k : ℕ) → k < n → getD (countUp i j n) k none ≡ (i, j + k)
+pub at-countUp : (i j n k : ℕ) → k < n → getD (countUp i j n) k (0, 0) ≡ (i, j + k)
 at-countUp i j zero k h = absurd (not-suc-le-zero h)
 at-countUp i j (suc n) zero h = rw (add-zero j)
 at-countUp i j (suc n) (suc k) h = at-countUp i (suc j) n k (le-of-suc-le-suc h) ∙ ap (λ m. (i, m)) (omega arith)
@@ -163,6 +163,12 @@ lower-ne p q (inr h) e = let w = ap (λ (x : Job). x .1) e in omega arith
 
 -- The existing jobs of tasks at a horizon
 -- ---------------------------------------
+
+-- the jobs of one task more
+pub jobs-on : (τs : List Task) (τ : Task) (H : ℕ) → totalJobs (τs ++ (τ ∷ [])) H ≡ totalJobs τs H + jobCount τ H
+jobs-on [] τ H = omega arith
+jobs-on (x ∷ τs) τ H = let e = jobs-on τs τ H in omega arith
+
 pub length-jobs : (τs : List Task) (H : ℕ) → length (jobs τs H) ≡ totalJobs τs H
 length-jobs τs H = length-from 0 (counts τs H)
 

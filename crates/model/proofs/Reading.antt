@@ -3,8 +3,9 @@ use Prim.Native.Nat.{ℕ, zero, suc, _+_, _*_, _≤_, _<_}
 use mathlib.Core.Path.{_≡_, refl, sym, subst, _∙_, ap}
 use mathlib.Core.Logic.{_↔_}
 use mathlib.Core.Bool.{Bool, true, false, true≢false, false≢true}
-use mathlib.Core.List.{List}
+use mathlib.Core.List.{List, [], _∷_, _++_}
 use mathlib.Core.Option.{Option, none, some}
+use native.Mathlib.Numerals.{add-one}
 use native.Mathlib.Omega.{arith}
 use lib.ListN.{length, getD}
 use Rattle.base.proofs.Test.{says-leb}
@@ -30,14 +31,23 @@ gateTask-whole none r ρ = (λ e. (refl, e), λ h. h .1)
 gateTask-whole (some i) r ρ = (λ e. absurd (whole≢refused e), λ h. let z : true ≡ false = cc (h .0) in absurd (true≢false z))
 
 module _ {A : Type 0} (entry : ℕ → A) (size : ℕ) where
-  length-entries : (i n : ℕ) → length (entries entry size i n) ≡ n
+  pub length-entries : (i n : ℕ) → length (entries entry size i n) ≡ n
   length-entries i zero = refl
   length-entries i (suc n) = ap suc (length-entries (i + size) n)
 
-  entries-at : (i n k : ℕ) (d : A) → k < n → getD (entries entry size i n) k d ≡ entry (i + size * k)
+  pub entries-at : (i n k : ℕ) (d : A) → k < n → getD (entries entry size i n) k d ≡ entry (i + size * k)
   entries-at i zero k d h = absurd (omega arith)
   entries-at i (suc n) zero d h = ap entry (omega arith)
   entries-at i (suc n) (suc k) d h = entries-at (i + size) n k d (omega arith) ∙ ap entry (omega arith)
+
+  entries-last : (i n : ℕ) → entries entry size i (suc n) ≡ entries entry size i n ++ (entry (i + size * n) ∷ [])
+  entries-last i zero = ap (λ k. entry k ∷ []) (omega arith)
+  entries-last i (suc n) =
+      ap (λ l. entry i ∷ l) (entries-last (i + size) n ∙ ap (λ k. entries entry size (i + size) n ++ (entry k ∷ [])) (omega arith))
+
+  -- one entry more
+  pub entries-on : (i n : ℕ) → entries entry size i (n + 1) ≡ entries entry size i n ++ (entry (i + size * n) ∷ [])
+  entries-on i n = rw add-one (entries-last i n)
 
 -- what is known of a run that a file tells
 record Tells (b : List ℕ) (ρ : Run) : Type 0 where

@@ -1,0 +1,5 @@
+pub mod Tests
+pub mod Write
+pub mod Fill
+pub mod Differ
+pub mod Tied

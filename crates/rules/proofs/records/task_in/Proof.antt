@@ -1,0 +1,22 @@
+use Rattle.model.specs.Model.{noTask}
+use mathlib.Core.Path.{sym}
+use native.Mathlib.Omega.{arith}
+use lib.ListN.{List·getD-eq-default}
+use borrow.Author.Needs.{needs}
+use Rattle.rules.proofs.records.task_in.Statement.{statement}
+use Rattle.rules.proofs.records.task_in.Tie as tie
+
+mul-result : tie.Need-mul-result
+mul-result c = search needs
+
+element-copy-out-result : tie.Need-element-copy-out-result
+element-copy-out-result c = search needs
+
+returns : tie.Need-returns
+returns c = search needs
+
+returns-2 : tie.Need-returns-2
+returns-2 c = sym (List·getD-eq-default (c .before .args .t1 .list) noTask (omega arith))
+
+pub task-in-spec : {M : Type 1} → statement M
+task-in-spec = tie.close (tie.spec mul-result element-copy-out-result returns returns-2)

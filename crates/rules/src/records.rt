@@ -1,0 +1,138 @@
+// Rules 2 to 5: the least record that does not do as the rule says.
+use base::Found;
+use model::Task;
+use model::Tasks;
+ghost use mathlib.Core.Path.{_≡_};
+ghost use mathlib.Core.Bool.{not};
+ghost use Prim.Native.Nat.{_≤_};
+ghost use lib.ListN.{length};
+ghost use Rattle.base.specs.Find.{seen, first};
+ghost use Rattle.model.specs.Model.{task as taskOf};
+ghost use Rattle.rules.specs.Columns.{releasedBy, lastedBy, releasedIn, lastedIn, startedIn, onCore, duesFrom};
+
+// Task i, or the task of zeros.
+fn task_in(tasks: Tasks, i: u32) -> Task
+    requires { ⌜ length (tasks .list) ≡ 32 ⌝ }
+    ensures { λ r. ⌜ r ≡ taskOf (tasks .list) i ⌝ }
+{
+    if i < Tasks::MOST {
+        return tasks.list[i as usize];
+    }
+    Task {
+        period: 0,
+        least: 0,
+        greatest: 0,
+        offset: 0,
+        jitter: 0,
+    }
+}
+
+// Rule 2 of one record.
+fn released(task: Task, job: u32, release: u32) -> bool
+    ensures { λ r. ⌜ r ≡ releasedBy task job release ⌝ }
+{
+    let from = task.arrival(job);
+    if (release as u64) < from {
+        return false;
+    }
+    if (task.jitter as u64) < release as u64 - from {
+        return false;
+    }
+    true
+}
+
+// Rule 4 of one record.
+fn lasted(task: Task, start: u32, end: u32) -> bool
+    ensures { λ r. ⌜ r ≡ lastedBy task start end ⌝ }
+{
+    if end < start {
+        return false;
+    }
+    if end - start < task.least {
+        return false;
+    }
+    if task.greatest < end - start {
+        return false;
+    }
+    true
+}
+
+// Rule 2. Release.
+pub fn release_place(tasks: Tasks, task: &[u32], job: &[u32], release: &[u32]) -> Found
+    requires { ⌜ (length (tasks .list) ≡ 32) × (length (now job) ≡ length (now task)) × (length (now release) ≡ length (now task)) × (length (now task) ≤ 512) ⌝ }
+    ensures { λ r. ⌜ seen r
+        ≡ first (λ k. not (releasedIn (tasks .list) (now (task .entry)) (now (job .entry)) (now (release .entry)) k)) 0 (length (now (task .entry))) ⌝ }
+{
+    let mut k = 0;
+    while k < task.len() {
+        let t = task_in(tasks, task[k]);
+        if !released(t, job[k], release[k]) {
+            return Found::At(k as u32);
+        }
+        k += 1;
+    }
+    Found::Nothing
+}
+
+// Rule 3. Start.
+pub fn start_place(release: &[u32], start: &[u32]) -> Found
+    requires { ⌜ (length (now start) ≡ length (now release)) × (length (now release) ≤ 512) ⌝ }
+    ensures { λ r. ⌜ seen r ≡ first (λ k. not (startedIn (now (release .entry)) (now (start .entry)) k)) 0 (length (now (release .entry))) ⌝ }
+{
+    let mut k = 0;
+    while k < release.len() {
+        if start[k] < release[k] {
+            return Found::At(k as u32);
+        }
+        k += 1;
+    }
+    Found::Nothing
+}
+
+// Rule 4. Length.
+pub fn length_place(tasks: Tasks, task: &[u32], start: &[u32], end: &[u32]) -> Found
+    requires { ⌜ (length (tasks .list) ≡ 32) × (length (now start) ≡ length (now task)) × (length (now end) ≡ length (now task)) × (length (now task) ≤ 512) ⌝ }
+    ensures { λ r. ⌜ seen r
+        ≡ first (λ k. not (lastedIn (tasks .list) (now (task .entry)) (now (start .entry)) (now (end .entry)) k)) 0 (length (now (task .entry))) ⌝ }
+{
+    let mut k = 0;
+    while k < task.len() {
+        let t = task_in(tasks, task[k]);
+        if !lasted(t, start[k], end[k]) {
+            return Found::At(k as u32);
+        }
+        k += 1;
+    }
+    Found::Nothing
+}
+
+// Rule 5. Core.
+pub fn core_place(cores: u32, core: &[u32]) -> Found
+    requires { ⌜ length (now core) ≤ 512 ⌝ }
+    ensures { λ r. ⌜ seen r ≡ first (λ k. not (onCore cores (now (core .entry)) k)) 0 (length (now (core .entry))) ⌝ }
+{
+    let mut k = 0;
+    while k < core.len() {
+        if core[k] < 1 {
+            return Found::At(k as u32);
+        }
+        if cores < core[k] {
+            return Found::At(k as u32);
+        }
+        k += 1;
+    }
+    Found::Nothing
+}
+
+// The deadlines of the records, as a column: the whole column is written.
+pub fn due_column(tasks: Tasks, task: &[u32], job: &[u32], due: &mut [u64])
+    requires { ⌜ (length (tasks .list) ≡ 32) × (length (now job) ≡ length (now task)) × (length (now due) ≡ length (now task)) ⌝ }
+    ensures { λ _. ⌜ now (due .exit) ≡ duesFrom (tasks .list) (now (task .entry)) (now (job .entry)) 0 (length (now (task .entry))) ⌝ }
+{
+    let mut k = 0;
+    while k < task.len() {
+        let t = task_in(tasks, task[k]);
+        due[k] = t.deadline(job[k]);
+        k += 1;
+    }
+}

@@ -1,0 +1,66 @@
+use borrow.Author.Needs.{needs}
+use Prim.Native.Nat.{_≤_, _-_}
+use lib.ListN.{length, length-set}
+use mathlib.Core.Path.{_≡_}
+use native.Mathlib.Omega.{arith}
+use Rattle.model.specs.File.{num, recordSize}
+use Rattle.runfile.proofs.Entries.{written, written-none, written-on, written-all}
+use Rattle.runfile.proofs.column.read_column.Statement.{statement}
+use Rattle.runfile.proofs.column.read_column.Tie as tie
+
+abbrev Inv-loop : tie.InvT-loop
+Inv-loop file at column₀ k₀ column k = (k ≤ length column₀) × (length column ≡ length column₀) × (column ≡ written (num file) recordSize at column₀ k)
+
+abbrev μ-loop : tie.MeasureT-loop
+μ-loop file at column₀ k₀ column k = length column₀ - k
+
+loop-holds : tie.Need-loop-holds Inv-loop μ-loop
+loop-holds c = (search needs, search needs, written-none _ _ _ _)
+
+mul-num-at : tie.Need-mul-num-at Inv-loop μ-loop
+mul-num-at c = search needs
+
+add-num-at : tie.Need-add-num-at Inv-loop μ-loop
+add-num-at c = search needs
+
+num-at-requires : tie.Need-num-at-requires Inv-loop μ-loop
+num-at-requires c κs = search needs
+
+mul-column : tie.Need-mul-column Inv-loop μ-loop
+mul-column c = search needs
+
+slice-write-column : tie.Need-slice-write-column Inv-loop μ-loop
+slice-write-column c = search needs
+
+add-k : tie.Need-add-k Inv-loop μ-loop
+add-k c = search needs
+
+loop-less : tie.Need-loop-less Inv-loop μ-loop
+loop-less c = search needs
+
+loop-again : tie.Need-loop-again Inv-loop μ-loop
+loop-again c = (search needs, simp length-set (omega arith), written-on _ _ _ _ 0 (c .before .before .loop .inv .2) (c .num-at .ensures) (omega arith))
+
+same-length : tie.Need-same-length Inv-loop μ-loop
+same-length c = search needs
+
+returns : tie.Need-returns Inv-loop μ-loop
+returns c = written-all _ _ _ _ (c .before .loop .inv .2) (omega arith)
+
+pub read-column-spec : {M : Type 1} → statement M
+read-column-spec =
+    tie.close
+    (tie.spec
+    Inv-loop
+    μ-loop
+    loop-holds
+    mul-num-at
+    add-num-at
+    num-at-requires
+    mul-column
+    slice-write-column
+    add-k
+    loop-less
+    loop-again
+    same-length
+    returns)

@@ -1,0 +1,71 @@
+use borrow.Author.Needs.{needs}
+use denote.Ref.{now}
+use native.Mathlib.Omega.{arith}
+use Rattle.runfile.proofs.Entries.{num-past}
+use Rattle.runfile.proofs.number.num_at.Statement.{statement}
+use Rattle.runfile.proofs.number.num_at.Tie as tie
+
+returns : tie.Need-returns
+returns c = let a = c .before .before .args in num-past (now (a .s)) (a .at) (omega arith)
+
+byte-at-requires : tie.Need-byte-at-requires
+byte-at-requires c κs = search needs
+
+add-byte-at : tie.Need-add-byte-at
+add-byte-at c = search needs
+
+byte-at-requires-2 : tie.Need-byte-at-requires-2
+byte-at-requires-2 c κs = search needs
+
+add-byte-at-2 : tie.Need-add-byte-at-2
+add-byte-at-2 c = search needs
+
+byte-at-requires-3 : tie.Need-byte-at-requires-3
+byte-at-requires-3 c κs = search needs
+
+add-byte-at-3 : tie.Need-add-byte-at-3
+add-byte-at-3 c = search needs
+
+byte-at-requires-4 : tie.Need-byte-at-requires-4
+byte-at-requires-4 c κs = search needs
+
+mul-result : tie.Need-mul-result
+mul-result c = search needs
+
+add-result : tie.Need-add-result
+add-result c = search needs
+
+mul-result-2 : tie.Need-mul-result-2
+mul-result-2 c = search needs
+
+add-result-2 : tie.Need-add-result-2
+add-result-2 c = search needs
+
+mul-result-3 : tie.Need-mul-result-3
+mul-result-3 c = search needs
+
+add-result-3 : tie.Need-add-result-3
+add-result-3 c = search needs
+
+returns-2 : tie.Need-returns-2
+returns-2 c = search needs
+
+pub num-at-spec : {M : Type 1} → statement M
+num-at-spec =
+    tie.close
+    (tie.spec
+    returns
+    byte-at-requires
+    add-byte-at
+    byte-at-requires-2
+    add-byte-at-2
+    byte-at-requires-3
+    add-byte-at-3
+    byte-at-requires-4
+    mul-result
+    add-result
+    mul-result-2
+    add-result-2
+    mul-result-3
+    add-result-3
+    returns-2)

@@ -1,0 +1,48 @@
+#!/usr/bin/env python3
+"""Writes the paper's worked runs as run files beside this script.
+
+  make.py [FOLDER]
+"""
+import pathlib
+import struct
+import sys
+
+folder = pathlib.Path(sys.argv[1]) if len(sys.argv) > 1 else pathlib.Path(__file__).parent
+
+
+def run(cores, horizon, tasks, records):
+    numbers = [2, cores, horizon, len(tasks)]
+    for task in tasks:
+        numbers += task
+    numbers.append(len(records))
+    for record in records:
+        numbers += record
+    return struct.pack(f"<{len(numbers)}I", *numbers)
+
+
+# Set S: P, B, W, O, J
+S = [(10, 1, 2, 0, 1), (30, 6, 8, 0, 1), (60, 15, 17, 0, 2), (60, 15, 20, 0, 2)]
+# records: task, job, r, s, e, core
+LAST_TWO = [(2, 0, 0, 0, 17, 1), (3, 0, 0, 0, 15, 2)]
+FIRST_TWO = [(0, 0, 1, 15, 17, 2), (0, 1, 10, 17, 19, 1)]
+UNIT = (1, 1, 1, 0, 0)
+
+RUNS = {
+    "c1": run(2, 20, S, FIRST_TWO + [(1, 0, 1, 17, 25, 2)] + LAST_TWO),
+    "c2": run(2, 10, S, [(0, 0, 1, 15, 17, 2), (1, 0, 1, 17, 25, 1)] + LAST_TWO),
+    "c4": run(2, 30, S, FIRST_TWO + [(0, 2, 20, 20, 22, 1), (1, 0, 1, 17, 25, 2)] + LAST_TWO),
+    "c5": run(
+        2, 10,
+        [(20, 5, 5, 0, 0), (20, 5, 5, 5, 0), (20, 1, 1, 5, 0), (100, 3, 3, 2, 0)],
+        [(0, 0, 0, 0, 5, 1), (1, 0, 5, 5, 10, 1), (2, 0, 5, 5, 6, 2), (3, 0, 2, 6, 9, 2)],
+    ),
+    "c6": run(2, 20, S, [(0, 0, 1, 15, 18, 2), (0, 1, 10, 17, 19, 1), (1, 0, 1, 17, 25, 2)] + LAST_TWO),
+    "c7": run(2, 20, S, FIRST_TWO + [(1, 0, 1, 17, 25, 2)] + LAST_TWO[:1]),
+    "c8": b"",
+    "c9": run(1, 512, [UNIT], [(0, j, j, j, j + 1, 1) for j in range(512)]),
+    "c10": run(1, 513, [UNIT], []),
+    "c11": run(1, 1, [(1, 1, 1, 1, 0)], []),
+}
+
+for name, data in RUNS.items():
+    (folder / f"{name}.run").write_bytes(data)
