@@ -27,7 +27,7 @@ module _ (ρ : Run) (J : Jobs ρ) where
   pub record-total : length (ρ .records) ≡ totalJobs (ρ .tasks) H
   record-total = job-count ∙ length-jobs (ρ .tasks) H
 
-  record-job : (k : ℕ) → IsRecord ρ k → jobOf (rec ρ k) ≡ getD (jobs (ρ .tasks) H) k (0, 0)
+  pub record-job : (k : ℕ) → IsRecord ρ k → jobOf (rec ρ k) ≡ getD (jobs (ρ .tasks) H) k (0, 0)
   record-job k h = sym (at-map jobOf (ρ .records) k (0, 0) noRecord h) ∙ ap (λ l. getD l k (0, 0)) record-jobs
 
   pub one-record : (a b : ℕ) → IsRecord ρ a → IsRecord ρ b → jobOf (rec ρ a) ≡ jobOf (rec ρ b) → a ≡ b

@@ -57,7 +57,7 @@ module _ (σ : Run) (u k c : ℕ) (range : IsRecord σ k) where
       go (yes z) = rw (z, here) e
       go (no z) = ap f (elsewhere a z)
 
-  rank-stays : (a : ℕ) → rank σ′ a ≡ rank σ a
+  pub rank-stays : (a : ℕ) → rank σ′ a ≡ rank σ a
   rank-stays a = same-rank σ′ σ a a refl (untouched jobOf refl a) (untouched (λ x. x .release) refl a)
 
   pub ready-stays : (a : ℕ) → ready σ′ a ≡ ready σ a

@@ -3,7 +3,7 @@ use Prim.Native.Nat.{ℕ, zero, suc, _+_, _*_, _≤_, _<_}
 use mathlib.Core.Path.{_≡_, refl, sym, subst, _∙_, ap}
 use mathlib.Core.Logic.{_↔_}
 use mathlib.Core.Bool.{Bool, true, false, true≢false, false≢true}
-use mathlib.Core.List.{List, [], _∷_, _++_}
+use mathlib.Core.List.{List, [], _∷_, _++_, map}
 use mathlib.Core.Option.{Option, none, some}
 use native.Mathlib.Numerals.{add-one}
 use native.Mathlib.Omega.{arith}
@@ -12,7 +12,7 @@ use Rattle.base.proofs.Test.{says-leb}
 use Rattle.model.specs.declared.setting.Setting.{Setting}
 use Rattle.model.specs.declared.task.Task.{Task}
 use Rattle.model.specs.Model.{Run, WithinLimits, SettingInRange, mostTasks, mostJobs, mostRecords, totalJobs, rec}
-use Rattle.model.specs.File.{Read, refused, whole, num, settingAt, taskAt, recordAt, entries, taskSize, recordSize, tasksPlace, recordsPlace, recordPlace, gate, gateTask, runAt, readRecords, readTasks, read}
+use Rattle.model.specs.File.{Read, refused, whole, num, settingAt, taskAt, recordAt, entries, taskSize, recordSize, tasksPlace, recordsPlace, recordPlace, gate, gateTask, tasksIn, runAt, readRecords, readTasks, read}
 use Rattle.model.specs.Compute.Limits.{badTask}
 use Rattle.model.proofs.Limits.{says-within, says-setting, tasks-fine}
 
@@ -48,6 +48,16 @@ module _ {A : Type 0} (entry : ℕ → A) (size : ℕ) where
   -- one entry more
   pub entries-on : (i n : ℕ) → entries entry size i (n + 1) ≡ entries entry size i n ++ (entry (i + size * n) ∷ [])
   entries-on i n = rw add-one (entries-last i n)
+
+-- one part of each entry, as a column
+pub column-entries : {A : Type 0} (b : List ℕ) (entry : ℕ → A) (part : A → ℕ) (off size : ℕ) → ((j : ℕ) → part (entry j) ≡ num b (j + off)) → (i n : ℕ)
+    → entries (num b) size (i + off) n ≡ map part (entries entry size i n)
+column-entries b entry part off size same i zero = refl
+column-entries b entry part off size same i (suc n) =
+    let p = sym (same i) in
+    let z : i + off + size ≡ i + size + off = omega arith in
+    let q = ap (λ k. entries (num b) size k n) z ∙ column-entries b entry part off size same (i + size) n in
+    λ κ. p κ ∷ q κ
 
 -- what is known of a run that a file tells
 record Tells (b : List ℕ) (ρ : Run) : Type 0 where
@@ -120,6 +130,13 @@ module _ (b : List ℕ) where
           size = omega arith;
           records = λ k h. at k _ (omega arith) ∙ ap (λ l. recordAt b (recordsPlace l + 4 + recordSize * k)) (sym N);
         })
+
+    -- the run that a file tells, entry by entry
+    pub read-is : read b ≡ whole ρ → runAt b (settingAt b 4) (tasksIn b (num b tasksPlace)) (recordsPlace (num b tasksPlace) + 4) (num b (recordsPlace (num b tasksPlace))) ≡ ρ
+    read-is e =
+        let (in-range, e₁) = setting-tells e in
+        let (some-task, few-tasks, none-bad, few-jobs, e₂) = tasks-tell (settingAt b 4) e₁ in
+        records-tell (settingAt b 4) (recordsPlace n) e₂ .2
 
     pub read-limits : read b ≡ whole ρ → WithinLimits ρ
     read-limits e = tells e .limits

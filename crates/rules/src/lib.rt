@@ -10,3 +10,4 @@ pub use records::due_column;
 pub use records::length_place;
 pub use records::release_place;
 pub use records::start_place;
+pub use records::task_in;

@@ -11,7 +11,7 @@ ghost use Rattle.model.specs.Model.{task as taskOf};
 ghost use Rattle.rules.specs.Columns.{releasedBy, lastedBy, releasedIn, lastedIn, startedIn, onCore, duesFrom};
 
 // Task i, or the task of zeros.
-fn task_in(tasks: Tasks, i: u32) -> Task
+pub fn task_in(tasks: Tasks, i: u32) -> Task
     requires { ⌜ length (tasks .list) ≡ 32 ⌝ }
     ensures { λ r. ⌜ r ≡ taskOf (tasks .list) i ⌝ }
 {

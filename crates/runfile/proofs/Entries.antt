@@ -40,9 +40,9 @@ module _ {A : Type 0} (entry : ℕ → A) (size i : ℕ) (l : List A) where
       ∙ sym (append-snoc (entries entry size i k) (entry (i + size * k)) (drop (suc k) l))
       ∙ rw (entries-on entry size i k, add-one))
 
-  pub written-all : {m : List A} {k : ℕ} → m ≡ written k → k ≡ length l → m ≡ entries entry size i (length l)
+  pub written-front : {m : List A} {k n : ℕ} → m ≡ written k → k ≡ n → m ≡ entries entry size i n ++ drop n l
   unfolding written
-  written-all e q = rw (e, q, drop-length l) (append-nil (entries entry size i (length l)))
+  written-front e q = rw (e, q)
 
 pub tasks-written : (b : List ℕ) (n : ℕ) {m : List Task} {i : ℕ} → m ≡ written (taskAt b) taskSize (tasksPlace + 4) (replicate 32 noTask) i → i ≡ n
     → m ≡ tasksIn b n ++ replicate (32 - n) noTask

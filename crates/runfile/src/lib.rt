@@ -4,7 +4,7 @@ mod entry;
 mod judge;
 mod number;
 
-pub use column::read_column;
+pub use column::read_records;
 pub use column::read_tasks;
 pub use entry::record_at;
 pub use entry::record_count;

@@ -4,15 +4,15 @@ use lib.ListN.{length, length-set}
 use mathlib.Core.Path.{_≡_}
 use native.Mathlib.Omega.{arith}
 use Rattle.model.specs.File.{num, recordSize}
-use Rattle.runfile.proofs.Entries.{written, written-none, written-on, written-all}
+use Rattle.runfile.proofs.Entries.{written, written-none, written-on, written-front}
 use Rattle.runfile.proofs.column.read_column.Statement.{statement}
 use Rattle.runfile.proofs.column.read_column.Tie as tie
 
 abbrev Inv-loop : tie.InvT-loop
-Inv-loop file at column₀ k₀ column k = (k ≤ length column₀) × (length column ≡ length column₀) × (column ≡ written (num file) recordSize at column₀ k)
+Inv-loop file at m column₀ k₀ column k = (k ≤ m) × (length column ≡ length column₀) × (column ≡ written (num file) recordSize at column₀ k)
 
 abbrev μ-loop : tie.MeasureT-loop
-μ-loop file at column₀ k₀ column k = length column₀ - k
+μ-loop file at m column₀ k₀ column k = m - k
 
 loop-holds : tie.Need-loop-holds Inv-loop μ-loop
 loop-holds c = (search needs, search needs, written-none _ _ _ _)
@@ -45,7 +45,7 @@ same-length : tie.Need-same-length Inv-loop μ-loop
 same-length c = search needs
 
 returns : tie.Need-returns Inv-loop μ-loop
-returns c = written-all _ _ _ _ (c .before .loop .inv .2) (omega arith)
+returns c = written-front _ _ _ _ {n = c .before .before .before .before .args .m} (c .before .loop .inv .2) (omega arith)
 
 pub read-column-spec : {M : Type 1} → statement M
 read-column-spec =

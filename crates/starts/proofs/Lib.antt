@@ -1,0 +1,5 @@
+pub mod Choosing
+pub mod Taking
+pub mod Standing
+pub mod Turn
+pub mod Turns

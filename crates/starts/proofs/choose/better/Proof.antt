@@ -1,0 +1,104 @@
+-- What one more job changes of the choice. Assumes nothing.
+use mathlib.Core.Path.{ap}
+use mathlib.Core.Logic.{inl, inr}
+use native.Mathlib.Omega.{arith}
+use borrow.Author.Needs.{needs}
+use Rattle.base.specs.Find.{seenTwo}
+use Rattle.starts.proofs.Choosing.{passed, kept, first-waits, sooner}
+use Rattle.starts.proofs.choose.better.Statement.{statement}
+use Rattle.starts.proofs.choose.better.Tie as tie
+
+mul-if1 : tie.Need-mul-if1
+mul-if1 c = search needs
+
+shared-slice-read-if1 : tie.Need-shared-slice-read-if1
+shared-slice-read-if1 c = search needs
+
+returns : tie.Need-returns
+returns c = passed (c .before .before .before .before .before .pre .3) (c .if1 .taken)
+
+mul-later : tie.Need-mul-later
+mul-later c = search needs
+
+shared-slice-read-later : tie.Need-shared-slice-read-later
+shared-slice-read-later c = search needs
+
+later-requires : tie.Need-later-requires
+later-requires c κs = search needs
+
+enum-told : tie.Need-enum-told
+enum-told c = search needs
+
+enum-known-best : tie.Need-enum-known-best
+enum-known-best c = search needs
+
+returns-2 : tie.Need-returns-2
+returns-2 c =
+    let g = c .before .before in
+    let s = g .before .before .before .before .before .before .before .before .before in
+    sooner (s .pre .3) (search needs) (g .before .before .later .ensures) (ap seenTwo (g .best .given .1)) (inl (c .if2 .taken))
+
+returns-3 : tie.Need-returns-3
+returns-3 c =
+    let g = c .before .before .before in
+    let s = g .before .before .before .before .before .before .before .before .before in
+    kept (s .pre .3) (ap seenTwo (g .best .given .1)) (g .before .before .later .ensures) (inl (c .if3 .taken))
+
+mul-if4 : tie.Need-mul-if4
+mul-if4 c = search needs
+
+shared-slice-read-if4 : tie.Need-shared-slice-read-if4
+shared-slice-read-if4 c = search needs
+
+cast-if4 : tie.Need-cast-if4
+cast-if4 c = search needs
+
+mul-if4-2 : tie.Need-mul-if4-2
+mul-if4-2 c = search needs
+
+shared-slice-read-if4-2 : tie.Need-shared-slice-read-if4-2
+shared-slice-read-if4-2 c =
+    let g = c .before .before .before .before .before in
+    let s = g .before .before .before .before .before .before .before .before .before in
+    let C = s .pre .3 .chosen _ _ (ap seenTwo (g .best .given .1)) in
+    omega (arith, C .range)
+
+returns-4 : tie.Need-returns-4
+returns-4 c =
+    let g = c .before .before .before .before .before .before in
+    let s = g .before .before .before .before .before .before .before .before .before in
+    sooner (s .pre .3) (search needs) (g .before .before .later .ensures) (ap seenTwo (g .best .given .1)) (inr (omega arith, c .if4 .taken))
+
+returns-5 : tie.Need-returns-5
+returns-5 c =
+    let s = c .before .before .before .before .before .before .before .before .before in
+    first-waits (s .pre .3) (search needs) (c .before .before .later .ensures) (ap seenTwo (c .enum-told .given .1))
+
+returns-6 : tie.Need-returns-6
+returns-6 c =
+    let g = c .before .before .before .before .before .before in
+    let s = g .before .before .before .before .before .before .before .before .before in
+    kept (s .pre .3) (ap seenTwo (g .best .given .1)) (g .before .before .later .ensures) (inr (omega arith, c .if4 .left))
+
+pub better-spec : {M : Type 1} → statement M
+better-spec =
+    tie.close
+    (tie.spec
+    mul-if1
+    shared-slice-read-if1
+    returns
+    mul-later
+    shared-slice-read-later
+    later-requires
+    enum-told
+    enum-known-best
+    returns-2
+    returns-3
+    mul-if4
+    shared-slice-read-if4
+    cast-if4
+    mul-if4-2
+    shared-slice-read-if4-2
+    returns-4
+    returns-5
+    returns-6)

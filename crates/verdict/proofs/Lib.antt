@@ -1,0 +1,4 @@
+pub mod From
+pub mod Lateness
+pub mod Same
+pub mod Tied
