@@ -64,9 +64,13 @@ module _ (ρ : Run) (L : WithinLimits ρ) where
         let x = rw e at (job-exists ρ H′ O good-tasks longer k h .1) in
         rw e (omega arith, omega arith)
 
+    -- what stands at H: releases, ends and cores
+    pub bounds₀ : (k : ℕ) → IsRecord σ₀ k → (rec σ₀ k .release ≤ mostHorizon + mostTime) × (rec σ₀ k .end ≤ mostHorizon + mostTime)
+    bounds₀ k h = below-from k h (origin ρ H′ O good-tasks longer k h)
+
     below₀ : Below (mostHorizon + mostTime) σ₀
     below₀ k h =
-        let b = below-from k h (origin ρ H′ O good-tasks longer k h) in
+        let b = bounds₀ k h in
         (omega (arith, ready-release σ₀ k), b .1)
 
     few-wait : waiting σ₀ ≤ mostJobs

@@ -11,4 +11,5 @@ pub mod Carried
 pub mod Shown
 pub mod Gates
 pub mod Demand3
+pub mod Columns
 pub mod Widen

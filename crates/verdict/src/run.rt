@@ -68,10 +68,12 @@ fn judge_times(
         → now (due .entry) ≡ duesFrom τs is js 0 (length is)
         → fiveOf r ≡ verdictFrom 6 ρ) ⌝ }
 {
-    if let FoundTwo::At(a, b) = overlap_place(start, end, core) {
+    let overlap = overlap_place(start, end, core);
+    let overtaking = order_place(due, release, start);
+    if let FoundTwo::At(a, b) = overlap {
         return Answer::RuleBroken(6, a, b, 0);
     }
-    if let FoundTwo::At(a, b) = order_place(due, release, start) {
+    if let FoundTwo::At(a, b) = overtaking {
         return Answer::RuleBroken(7, a, b, 0);
     }
     if let FoundThree::At(a, t, c) = idle_place(setting.cores, release, start, end, core) {

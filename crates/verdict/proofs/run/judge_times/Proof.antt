@@ -21,12 +21,15 @@ use Rattle.verdict.proofs.run.judge_times.Tie as tie
 overlap-place-requires : tie.Need-overlap-place-requires
 overlap-place-requires c κs = search needs
 
-enum-known-a : tie.Need-enum-known-a
-enum-known-a c = search needs
+order-place-requires : tie.Need-order-place-requires
+order-place-requires c κs = search needs
+
+enum-known-overlap : tie.Need-enum-known-overlap
+enum-known-overlap c = search needs
 
 returns : tie.Need-returns
 returns c ρ τs n is js L D =
-    broken ρ two 6 (omega arith) (ap (Option·map two) (c .before .before .before .overlap-place .ensures) ∙ overlap-lent L) (ap seenTwo (c .before .a .given .1))
+    broken ρ two 6 (omega arith) (ap (Option·map two) (c .before .before .before .before .overlap-place .ensures) ∙ overlap-lent L) (ap seenTwo (c .before .overlap .given .1))
 
 enum-told : tie.Need-enum-told
 enum-told c = search needs
@@ -39,25 +42,22 @@ Past s ν =
     → s .args .due .now ≡ duesFrom τs is js 0 (length is)
     → verdictFrom 6 ρ ≡ verdictFrom ν ρ
 
-past-6 : (c : tie.After-enum-told) → Past (c .before .before .before .before .before .before .before .before) 7
+past-6 : (c : tie.After-enum-told) → Past (c .before .before .before .before .before .before .before .before .before) 7
 past-6 c ρ τs n is js L D =
-    passed ρ two 6 (omega arith) (ap (Option·map two) (c .before .before .overlap-place .ensures) ∙ overlap-lent L) (ap seenTwo (c .enum-told .given .1))
+    passed ρ two 6 (omega arith) (ap (Option·map two) (c .before .before .before .overlap-place .ensures) ∙ overlap-lent L) (ap seenTwo (c .enum-told .given .1))
 
 past-7 : (c : tie.After-enum-told2) → Past (c .before .before .before .before .before .before .before .before .before .before .before) 8
 past-7 c ρ τs n is js L D =
-    past-6 (c .before .before .before) ρ τs n is js L D
-    ∙ passed ρ two 7 (omega arith) (ap (Option·map two) (c .before .before .order-place .ensures) ∙ order-lent L D) (ap seenTwo (c .enum-told2 .given .1))
+    past-6 (c .before .before) ρ τs n is js L D
+    ∙ passed ρ two 7 (omega arith) (ap (Option·map two) (c .before .before .before .before .order-place .ensures) ∙ order-lent L D) (ap seenTwo (c .enum-told2 .given .1))
 
-order-place-requires : tie.Need-order-place-requires
-order-place-requires c κs = search needs
-
-enum-known-a-2 : tie.Need-enum-known-a-2
-enum-known-a-2 c = search needs
+enum-known-overtaking : tie.Need-enum-known-overtaking
+enum-known-overtaking c = search needs
 
 returns-2 : tie.Need-returns-2
 returns-2 c ρ τs n is js L D =
-    broken ρ two 7 (omega arith) (ap (Option·map two) (c .before .before .before .order-place .ensures) ∙ order-lent L D) (ap seenTwo (c .before .a2 .given .1))
-    ∙ sym (past-6 (c .before .before .before .before) ρ τs n is js L D)
+    broken ρ two 7 (omega arith) (ap (Option·map two) (c .before .before .before .before .before .order-place .ensures) ∙ order-lent L D) (ap seenTwo (c .before .overtaking .given .1))
+    ∙ sym (past-6 (c .before .before .before) ρ τs n is js L D)
 
 enum-told-2 : tie.Need-enum-told-2
 enum-told-2 c = search needs
@@ -65,12 +65,12 @@ enum-told-2 c = search needs
 idle-place-requires : tie.Need-idle-place-requires
 idle-place-requires c κs = search needs
 
-enum-known-a-3 : tie.Need-enum-known-a-3
-enum-known-a-3 c = search needs
+enum-known-a : tie.Need-enum-known-a
+enum-known-a c = search needs
 
 returns-3 : tie.Need-returns-3
 returns-3 c ρ τs n is js L D =
-    broken ρ three 8 (omega arith) (ap (Option·map three) (c .before .before .before .idle-place .ensures) ∙ idle-lent L) (ap seenThree (c .before .a3 .given .1))
+    broken ρ three 8 (omega arith) (ap (Option·map three) (c .before .before .before .idle-place .ensures) ∙ idle-lent L) (ap seenThree (c .before .a .given .1))
     ∙ sym (past-7 (c .before .before .before .before) ρ τs n is js L D)
 
 enum-told-3 : tie.Need-enum-told-3
@@ -91,15 +91,15 @@ judge-times-spec =
     tie.close
     (tie.spec
     overlap-place-requires
-    enum-known-a
+    order-place-requires
+    enum-known-overlap
     returns
     enum-told
-    order-place-requires
-    enum-known-a-2
+    enum-known-overtaking
     returns-2
     enum-told-2
     idle-place-requires
-    enum-known-a-3
+    enum-known-a
     returns-3
     enum-told-3
     timely-requires
