@@ -1,0 +1,146 @@
+-- A file that is not refused, lent as its columns; and what is told of one that is refused. Assumes nothing.
+use Prim.Native.Nat.{ℕ, _+_, _-_, _≤_, _<_}
+use mathlib.Core.Path.{_≡_, refl, sym, subst, _∙_, ap}
+use mathlib.Core.List.{List, [], _∷_, _++_, map}
+use mathlib.Core.Logic.{⊎-elim}
+use mathlib.Core.Option.{Option, none, some}
+use native.Mathlib.Nat.{add-zero}
+use native.Mathlib.Omega.{arith}
+use lib.ListN.{length, replicate, take, drop}
+use types.Run.{OneOf}
+use lib.Seq.{take-at}
+use Rattle.base.proofs.Find.{some≢none}
+use Rattle.model.specs.declared.setting.Setting.{Setting}
+use Rattle.model.specs.declared.task.Task.{Task}
+use Rattle.model.specs.declared.record.Record.{Record}
+use Rattle.model.specs.Model.{Run, WithinLimits, noTask, totalJobs}
+use Rattle.model.specs.File.{Read, refused, whole, read, refusalOf, num, settingAt, taskAt, recordAt, entries, tasksIn, runAt, tasksPlace, recordsPlace, taskSize, recordSize}
+use Rattle.model.specs.Answers.{Five, refusal}
+use Rattle.model.specs.Compute.Verdict.{verdict, check, checkOf}
+use Rattle.model.proofs.Reading.{read-is, read-limits, length-entries, column-entries}
+use Rattle.runfile.specs.Judged.{told}
+use Rattle.runfile.specs.declared.judge.Judged.{Judged}
+use Rattle.runfile.specs.declared.judge.Judged.the-variants.{Fine, Ends, SettingCount, SettingRange, TaskCount, TaskRange, TooManyJobs, RecordCount, Trailing}
+use Rattle.verdict.specs.Lent.{Lent}
+
+-- what a file that is not refused tells
+pub told-whole : (b : List ℕ) → refusalOf (read b) ≡ none → (ρ : Run) × (read b ≡ whole ρ)
+told-whole b e = go (read b) refl
+  where
+    go : (r : Read) → read b ≡ r → (ρ : Run) × (read b ≡ whole ρ)
+    go (refused ν i) q = absurd (some≢none (sym (ap refusalOf q) ∙ e))
+    go (whole ρ) q = (ρ, q)
+
+pub check-whole : (b : List ℕ) (ρ : Run) → read b ≡ whole ρ → verdict ρ ≡ check b
+unfolding check
+check-whole b ρ e = sym (ap checkOf e)
+
+-- two tellings of one thing are the same refusal
+pub same-refusal : (o : Option (ℕ × ℕ)) (μ j ν i : ℕ) → o ≡ some (μ, j) → o ≡ some (ν, i) → refusal μ j ≡ refusal ν i
+same-refusal o μ j ν i d e =
+    let z : _≡_ {A = Option (ℕ × ℕ)} (some (μ, j)) (some (ν, i)) = sym d ∙ e in
+    let p : _≡_ {A = ℕ × ℕ} (μ, j) (ν, i) = cc in
+    ap (λ t. refusal (t .0) (t .1)) p
+
+pub check-refused : (b : List ℕ) (ν i : ℕ) → refusalOf (read b) ≡ some (ν, i) → refusal ν i ≡ check b
+unfolding check
+check-refused b ν i e = go (read b) refl
+  where
+    go : (r : Read) → read b ≡ r → refusal ν i ≡ checkOf (read b)
+    go (refused μ j) q = sym (ap checkOf q ∙ same-refusal (refusalOf (read b)) μ j ν i (ap refusalOf q) e)
+    go (whole ρ) q = absurd (some≢none (sym e ∙ ap refusalOf q))
+
+-- none of the keys of the other cases is the first one's
+pub no-key : OneOf (1 ∷ 2 ∷ 3 ∷ 4 ∷ 5 ∷ 6 ∷ 7 ∷ 8 ∷ []) 0 → ⊥
+no-key =
+    ⊎-elim (λ e. omega arith) (⊎-elim (λ e. omega arith) (⊎-elim (λ e. omega arith) (⊎-elim (λ e. omega arith)
+    (⊎-elim (λ e. omega arith) (⊎-elim (λ e. omega arith) (⊎-elim (λ e. omega arith) (λ e. omega arith)))))))
+
+-- what is answered for a fault is what the check says
+pub check-fault : (b : List ℕ) (j : Judged) (f : Five) → ¬ (j ≡ Fine) → told j ≡ refusalOf (read b) → ((ν i : ℕ) → told j ≡ some (ν, i) → f ≡ refusal ν i) → f ≡ check b
+check-fault b Fine f h e g = absurd (h refl)
+check-fault b Ends f h e g = g 1 0 refl ∙ check-refused b 1 0 (sym e)
+check-fault b SettingCount f h e g = g 2 0 refl ∙ check-refused b 2 0 (sym e)
+check-fault b SettingRange f h e g = g 3 0 refl ∙ check-refused b 3 0 (sym e)
+check-fault b TaskCount f h e g = g 4 0 refl ∙ check-refused b 4 0 (sym e)
+check-fault b (TaskRange i) f h e g = g 5 i refl ∙ check-refused b 5 i (sym e)
+check-fault b TooManyJobs f h e g = g 6 0 refl ∙ check-refused b 6 0 (sym e)
+check-fault b RecordCount f h e g = g 7 0 refl ∙ check-refused b 7 0 (sym e)
+check-fault b Trailing f h e g = g 8 0 refl ∙ check-refused b 8 0 (sym e)
+
+module _ (b : List ℕ) (ρ : Run) (e : read b ≡ whole ρ) where
+  abbrev n : ℕ
+  n = num b tasksPlace
+
+  abbrev m : ℕ
+  m = num b (recordsPlace n)
+
+  abbrev at : ℕ
+  at = recordsPlace n + 4
+
+  is-setting : settingAt b 4 ≡ ρ .setting
+  unfolding runAt
+  is-setting = ap (λ r. r .setting) (read-is b ρ e)
+
+  is-tasks : tasksIn b n ≡ ρ .tasks
+  unfolding runAt
+  is-tasks = ap (λ r. r .tasks) (read-is b ρ e)
+
+  is-records : entries (recordAt b) recordSize at m ≡ ρ .records
+  unfolding runAt
+  is-records = ap (λ r. r .records) (read-is b ρ e)
+
+  is-count : n ≡ length (ρ .tasks)
+  is-count = sym (length-entries (taskAt b) taskSize (tasksPlace + 4) n) ∙ ap length is-tasks
+
+  column : (part : Record → ℕ) (off : ℕ) → ((j : ℕ) → part (recordAt b j) ≡ num b (j + off)) → entries (num b) recordSize (at + off) m ≡ map part (ρ .records)
+  column part off same = column-entries b (recordAt b) part off recordSize same at m ∙ ap (map part) is-records
+
+  first-column : entries (num b) recordSize at m ≡ map (λ (x : Record). x .task) (ρ .records)
+  first-column =
+      ap (λ i. entries (num b) recordSize i m) (sym (add-zero at)) ∙ column (λ x. x .task) 0 (λ j. ap (num b) (sym (add-zero j)))
+
+  pub few-records : m ≤ 512
+  few-records =
+      let l = length-entries (recordAt b) recordSize at m in
+      let r = ap length is-records in
+      omega (arith, read-limits b ρ e .record-count)
+
+  pub few-tasks : n ≤ 32
+  few-tasks = omega (arith, is-count, read-limits b ρ e .task-count)
+
+  -- the values that were read are those of the file
+  module _ (σ : Setting) (τs : List Task) (k a l : ℕ) (pσ : σ ≡ settingAt b 4) (pτ : τs ≡ tasksIn b k ++ replicate (32 - k) noTask) (pk : k ≡ n) (pa : a ≡ at) (pl : l ≡ m) where
+    pub few-jobs : totalJobs (take k τs) (σ .horizon) ≤ 512
+    few-jobs =
+        let t : take k τs ≡ ρ .tasks = ap (take k) pτ ∙ take-at (tasksIn b k) (replicate (32 - k) noTask) k (length-entries (taskAt b) taskSize (tasksPlace + 4) k) ∙ ap (tasksIn b) pk ∙ is-tasks in
+        subst (λ us. totalJobs us (σ .horizon) ≤ 512) (sym t) (subst (λ u. totalJobs (ρ .tasks) (u .horizon) ≤ 512) (sym (pσ ∙ is-setting)) (read-limits b ρ e .job-count))
+
+    pub few-cores : σ .cores ≤ 16
+    few-cores = subst (λ u. u .cores ≤ 16) (sym (pσ ∙ is-setting)) (read-limits b ρ e .setting .cores .1)
+
+    -- the numbers that were read into an array, at a place among the records' parts
+    abbrev FromPart : ℕ → List ℕ → Type 0
+    FromPart i xs = xs ≡ entries (num b) recordSize i l ++ drop l (replicate 512 0)
+
+    front : (i : ℕ) (xs : List ℕ) → FromPart i xs → take l xs ≡ entries (num b) recordSize i l
+    front i xs x = ap (take l) x ∙ take-at (entries (num b) recordSize i l) (drop l (replicate 512 0)) l (length-entries (num b) recordSize i l)
+
+    front-column : (part : Record → ℕ) (off : ℕ) → ((j : ℕ) → part (recordAt b j) ≡ num b (j + off)) → (xs : List ℕ) → FromPart (a + off) xs → take l xs ≡ map part (ρ .records)
+    front-column part off same xs x = front (a + off) xs x ∙ (λ κ. entries (num b) recordSize (pa κ + off) (pl κ)) ∙ column part off same
+
+    pub lent : (is js rs ss es cs : List ℕ) → FromPart a is → FromPart (a + 4) js → FromPart (a + 8) rs → FromPart (a + 12) ss → FromPart (a + 16) es → FromPart (a + 20) cs
+        → Lent ρ σ τs k (take l is) (take l js) (take l rs) (take l ss) (take l es) (take l cs)
+    lent is js rs ss es cs i j r s f c =
+        record {
+          limits = read-limits b ρ e;
+          setting = pσ ∙ is-setting;
+          tasks = pτ ∙ (λ κ. tasksIn b (pk κ) ++ replicate (32 - pk κ) noTask) ∙ (λ κ. is-tasks κ ++ replicate (32 - is-count κ) noTask);
+          count = pk ∙ is-count;
+          task = front a is i ∙ (λ κ. entries (num b) recordSize (pa κ) (pl κ)) ∙ first-column;
+          job = front-column (λ x. x .job) 4 (λ j. refl) js j;
+          release = front-column (λ x. x .release) 8 (λ j. refl) rs r;
+          start = front-column (λ x. x .start) 12 (λ j. refl) ss s;
+          end = front-column (λ x. x .end) 16 (λ j. refl) es f;
+          core = front-column (λ x. x .core) 20 (λ j. refl) cs c;
+        }

@@ -1,0 +1,85 @@
+-- One case for each judgement. Assumes nothing.
+use mathlib.Core.Path.{sym, _∙_, ap}
+use borrow.Author.Needs.{needs}
+use Rattle.base.proofs.Find.{some≢none}
+use Rattle.runfile.specs.Judged.{told}
+use Rattle.checker.proofs.Whole.{same-refusal}
+use Rattle.checker.proofs.file.refused.Statement.{statement}
+use Rattle.checker.proofs.file.refused.Tie as tie
+
+enum-told : tie.Need-enum-told
+enum-told c = search needs
+
+enum-told-2 : tie.Need-enum-told-2
+enum-told-2 c = search needs
+
+enum-told-3 : tie.Need-enum-told-3
+enum-told-3 c = search needs
+
+enum-told-4 : tie.Need-enum-told-4
+enum-told-4 c = search needs
+
+enum-told-5 : tie.Need-enum-told-5
+enum-told-5 c = search needs
+
+enum-known-j : tie.Need-enum-known-j
+enum-known-j c = search needs
+
+enum-told-6 : tie.Need-enum-told-6
+enum-told-6 c = search needs
+
+enum-told-7 : tie.Need-enum-told-7
+enum-told-7 c = search needs
+
+enum-told-8 : tie.Need-enum-told-8
+enum-told-8 c = search needs
+
+returns : tie.Need-returns
+returns c ν i e = absurd (some≢none (sym e ∙ ap told (c .enum-told .given .1)))
+
+returns-2 : tie.Need-returns-2
+returns-2 c ν i e = same-refusal _ 1 0 ν i (ap told (c .enum-told2 .given .1)) e
+
+returns-3 : tie.Need-returns-3
+returns-3 c ν i e = same-refusal _ 2 0 ν i (ap told (c .enum-told3 .given .1)) e
+
+returns-4 : tie.Need-returns-4
+returns-4 c ν i e = same-refusal _ 3 0 ν i (ap told (c .enum-told4 .given .1)) e
+
+returns-5 : tie.Need-returns-5
+returns-5 c ν i e = same-refusal _ 4 0 ν i (ap told (c .enum-told5 .given .1)) e
+
+returns-6 : tie.Need-returns-6
+returns-6 c ν i e = same-refusal _ 5 _ ν i (ap told (c .before .j .given .1)) e
+
+returns-7 : tie.Need-returns-7
+returns-7 c ν i e = same-refusal _ 6 0 ν i (ap told (c .enum-told6 .given .1)) e
+
+returns-8 : tie.Need-returns-8
+returns-8 c ν i e = same-refusal _ 7 0 ν i (ap told (c .enum-told7 .given .1)) e
+
+returns-9 : tie.Need-returns-9
+returns-9 c ν i e = same-refusal _ 8 0 ν i (ap told (c .enum-told8 .given .1)) e
+
+pub refused-spec : {M : Type 1} → statement M
+refused-spec =
+    tie.close
+    (tie.spec
+    enum-told
+    enum-told-2
+    enum-told-3
+    enum-told-4
+    enum-told-5
+    enum-known-j
+    enum-told-6
+    enum-told-7
+    enum-told-8
+    returns
+    returns-2
+    returns-3
+    returns-4
+    returns-5
+    returns-6
+    returns-7
+    returns-8
+    returns-9)

@@ -1,0 +1,86 @@
+// The five numbers of a file.
+use model::Answer;
+use runfile::Judged;
+use runfile::judge_file;
+use runfile::read_records;
+use runfile::read_tasks;
+use runfile::record_count;
+use runfile::records_place;
+use runfile::setting_of;
+use runfile::task_count;
+use verdict::judge_run;
+ghost use mathlib.Core.Path.{_≡_};
+ghost use mathlib.Core.Option.{none, some};
+ghost use Prim.Native.Nat.{ℕ};
+ghost use Rattle.model.specs.Answers.{fiveOf, refusal};
+ghost use Rattle.model.specs.Compute.Verdict.{check};
+ghost use Rattle.model.specs.File.{read, refusalOf};
+ghost use Rattle.runfile.specs.Judged.{told};
+
+// The answer of a file that is refused.
+pub fn refused(j: Judged) -> Answer
+    ensures { λ r. ⌜ ((ν i : ℕ) → told j ≡ some (ν, i) → fiveOf r ≡ refusal ν i) ⌝ }
+{
+    match j {
+        Judged::Fine => Answer::InTime,
+        Judged::Ends => Answer::Refused(1, 0),
+        Judged::SettingCount => Answer::Refused(2, 0),
+        Judged::SettingRange => Answer::Refused(3, 0),
+        Judged::TaskCount => Answer::Refused(4, 0),
+        Judged::TaskRange(i) => Answer::Refused(5, i),
+        Judged::TooManyJobs => Answer::Refused(6, 0),
+        Judged::RecordCount => Answer::Refused(7, 0),
+        Judged::Trailing => Answer::Refused(8, 0),
+    }
+}
+
+// The answer of a file that is not refused: each number is read once, into columns.
+fn check_whole(file: &[u8]) -> Answer
+    requires { ⌜ refusalOf (read (now file)) ≡ none ⌝ }
+    ensures { λ r. ⌜ fiveOf r ≡ check (now (file .entry)) ⌝ }
+{
+    let setting = setting_of(file);
+    let n = task_count(file);
+    let tasks = read_tasks(file, n);
+    let at = records_place(n) + 4;
+    let m = record_count(file) as usize;
+    let mut task = [0u32; 512];
+    let mut job = [0u32; 512];
+    let mut release = [0u32; 512];
+    let mut start = [0u32; 512];
+    let mut end = [0u32; 512];
+    let mut core = [0u32; 512];
+    read_records(
+        file,
+        at,
+        m,
+        &mut task,
+        &mut job,
+        &mut release,
+        &mut start,
+        &mut end,
+        &mut core,
+    );
+    judge_run(
+        setting,
+        tasks,
+        n,
+        &task[..m],
+        &job[..m],
+        &release[..m],
+        &start[..m],
+        &end[..m],
+        &core[..m],
+    )
+}
+
+// The answer of any file.
+pub fn check_file(file: &[u8]) -> Answer
+    ensures { λ r. ⌜ fiveOf r ≡ check (now (file .entry)) ⌝ }
+{
+    let j = judge_file(file);
+    let Judged::Fine = j else {
+        return refused(j);
+    };
+    check_whole(file)
+}

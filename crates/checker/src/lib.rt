@@ -1,0 +1,5 @@
+// The five numbers of a file.
+mod file;
+
+pub use file::check_file;
+pub use file::refused;

@@ -1,0 +1,3 @@
+pub mod Whole
+pub mod Parts
+pub mod Walk

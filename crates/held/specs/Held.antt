@@ -1,0 +1,30 @@
+-- Where the records of a file begin, how many there are, and what it is to be a part of a lent file.
+use Prim.Native.Nat.{ℕ, _+_, _*_}
+use mathlib.Core.Bool.{Bool, true, false, _&&_}
+use mathlib.Core.List.{List}
+use mathlib.Core.Path.{_≡_}
+use denote.Ref.{RefT}
+use lib.Dec.{leb, ltb}
+use lib.ListN.{length}
+use Rattle.model.specs.File.{Read, refused, whole, recordPlace, recordSize, Part, partOf, emptyPart}
+use Rattle.held.specs.declared.Starts.{Starts}
+
+-- a file that is refused has no records
+abbrev pub startsOf : Read → Starts
+startsOf (refused ν i) = record { records = 0; count = 0 }
+startsOf (whole ρ) = record { records = recordPlace ρ 0; count = length (ρ .records) }
+
+-- the 24 bytes from a place on, or the empty front part
+abbrev pub bytesIf : Bool → ℕ → Part
+bytesIf true from = record { from = from; size = recordSize }
+bytesIf false from = emptyPart
+
+-- record k of n that begin at a place of a file of so many bytes: if it is one of them, and the file has its bytes
+unfoldable pub partIn : ℕ → ℕ → ℕ → ℕ → Part
+partIn bytes at n k = bytesIf (ltb k n && leb (at + recordSize * k + recordSize) bytes) (at + recordSize * k)
+
+-- r is that part of the file: it has the part's bytes, and it lies in the file's block, at the part's place
+pub record IsPart (r file : RefT (List ℕ)) (p : Part) : Type 0 where
+  pub bytes : r .now ≡ partOf (file .now) p
+  pub block : r .ptr .0 ≡ file .ptr .0
+  pub place : r .ptr .1 ≡ file .ptr .1 + p .from

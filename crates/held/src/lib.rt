@@ -1,0 +1,100 @@
+// A reader over a lent file: it holds the file, and gives a record as the bytes of the file that it is.
+use runfile::Judged;
+use runfile::judge_file;
+use runfile::record_count;
+use runfile::records_place;
+use runfile::task_count;
+ghost use mathlib.Core.Path.{_≡_};
+ghost use lib.ListN.{length};
+ghost use Rattle.base.specs.Find.{found};
+ghost use Rattle.model.specs.File.{read, refusalOf, recordPart};
+ghost use Rattle.runfile.specs.Judged.{told};
+ghost use Rattle.held.specs.Held.{startsOf, partIn, IsPart};
+
+// Where the records of a file begin, and how many there are: none in a file that is refused.
+pub struct Starts {
+    pub records: u32,
+    pub count: u32,
+}
+
+pub struct Reader<'a> {
+    pub file: &'a [u8],
+    pub records: u32,
+    pub count: u32,
+}
+
+// Whether a judgement is a refusal.
+fn is_refusal(j: Judged) -> bool
+    ensures { λ r. ⌜ r ≡ found (told j) ⌝ }
+{
+    match j {
+        Judged::Fine => false,
+        Judged::Ends => true,
+        Judged::SettingCount => true,
+        Judged::SettingRange => true,
+        Judged::TaskCount => true,
+        Judged::TaskRange(_) => true,
+        Judged::TooManyJobs => true,
+        Judged::RecordCount => true,
+        Judged::Trailing => true,
+    }
+}
+
+pub fn starts_of(file: &[u8]) -> Starts
+    ensures { λ r. ⌜ r ≡ startsOf (read (now (file .entry))) ⌝ }
+{
+    let j = judge_file(file);
+    if is_refusal(j) {
+        return Starts {
+            records: 0,
+            count: 0,
+        };
+    }
+    let n = task_count(file);
+    Starts {
+        records: records_place(n) as u32 + 4,
+        count: record_count(file),
+    }
+}
+
+// Record k of n that begin at a place, or the empty front part.
+pub fn part_in<'a>(file: &'a [u8], at: u32, n: u32, k: u32) -> &'a [u8]
+    ensures { λ r. ⌜ IsPart r (file .entry) (partIn (length (now (file .entry))) at n k) ⌝ }
+{
+    if n <= k {
+        return &file[..0];
+    }
+    let from = at as usize + 24 * k as usize;
+    let to = from + 24;
+    if file.len() < to {
+        return &file[..0];
+    }
+    &file[from..to]
+}
+
+// The reader of a file: the file is judged once.
+pub fn open<'a>(file: &'a [u8]) -> Reader<'a>
+    ensures { λ r. ⌜ (r .file ≡ file .entry) × (record { records = r .records; count = r .count } ≡ startsOf (read (now (file .entry)))) ⌝ }
+{
+    let s = starts_of(file);
+    Reader {
+        file,
+        records: s.records,
+        count: s.count,
+    }
+}
+
+// Record k, or the empty front part.
+pub fn record<'a>(r: Reader<'a>, k: u32) -> &'a [u8]
+    ensures { λ s. ⌜ IsPart s (r .entry .file) (partIn (length (now (r .entry .file))) (r .entry .records) (r .entry .count) k) ⌝ }
+{
+    part_in(r.file, r.records, r.count, k)
+}
+
+// The same with plain parameters: record k of a file as the 24 bytes of the file that it is, and the empty front part if k is not
+// below the record count or the file is refused.
+pub fn record_of<'a>(file: &'a [u8], k: u32) -> &'a [u8]
+    ensures { λ s. ⌜ IsPart s (file .entry) (recordPart (now (file .entry)) k) ⌝ }
+{
+    record(open(file), k)
+}

@@ -1,0 +1,73 @@
+-- The plan of a decoding, one law for each way. Assumes nothing.
+use Prim.Native.Nat.{ℕ, zero, suc, _≤_, _<_}
+use mathlib.Core.Path.{_≡_, refl, sym, _∙_, ap}
+use mathlib.Core.Bool.{Bool, true, false, false≢true}
+use mathlib.Core.List.{List, _++_}
+use native.Mathlib.Omega.{arith}
+use borrow.Author.Tests.{le-leb, lt-leb}
+use lib.Dec.{leb}
+use lib.ListN.{length, drop}
+use Rattle.base.specs.Find.{found}
+use Rattle.model.specs.declared.task.Task.{Task}
+use Rattle.model.specs.File.{Read, refused, whole, read, refusalOf, tasksIn, decoded, decodedIf, decodedOf}
+use Rattle.held.proofs.Whole.{Fine, tasksSaid, runSaid, reads-whole, tasks-counted, tasks-said, few-tasks}
+use Rattle.lent.specs.declared.Stored.{Stored}
+use Rattle.lent.specs.Lent.{refusalBy, refusalIn, countIf, countOf, Plans}
+
+by-number : (ν i : ℕ) → ¬ (ν ≡ 0) → found (refusalBy ν i) ≡ true
+by-number zero i h = absurd (h refl)
+by-number (suc ν) i h = refl
+
+of-refused : (r : Read) (l : List Task) → found (refusalOf r) ≡ true → (refusalOf r ≡ decodedOf r l .refusal) × (l ≡ decodedOf r l .list) × (0 ≡ countOf r (length l))
+of-refused (refused ν i) l e = (refl, refl, refl)
+of-refused (whole ρ) l e = absurd (false≢true e)
+
+module _ (b : List ℕ) (s : Stored) (j : refusalIn s ≡ refusalOf (read b)) where
+  pub fine-said : s .number ≡ 0 → Fine (read b)
+  fine-said e = sym (ap found j) ∙ ap (λ ν. found (refusalBy ν (s .task))) e
+
+  pub plan-refused : (l : List Task) → ¬ (s .number ≡ 0) → s .count ≡ 0 → Plans b l s
+  unfolding decoded
+  plan-refused l h z =
+      let (refusal, list, count) = of-refused (read b) l (sym (ap found j) ∙ by-number (s .number) (s .task) h) in
+      record {
+        refusal = j ∙ refusal;
+        stored = ap (λ n. tasksIn b n ++ drop n l) z ∙ list;
+        count = z ∙ count;
+        few = omega arith;
+        room = omega arith;
+      }
+
+-- a file that is not refused, which says that it has n tasks
+module _ (b : List ℕ) (l : List Task) (e : Fine (read b)) {n : ℕ} (c : n ≡ tasksSaid b) where
+  long : length (runSaid b .tasks) ≡ n
+  long = tasks-counted b ∙ sym c
+
+  decodes : (t : Bool) → leb (length (runSaid b .tasks)) (length l) ≡ t → decoded b l ≡ decodedIf t (runSaid b .tasks) l
+  unfolding decoded
+  decodes t q = ap (λ r. decodedOf r l) (reads-whole b e) ∙ ap (λ x. decodedIf x (runSaid b .tasks) l) q
+
+  counts : (t : Bool) → leb (length (runSaid b .tasks)) (length l) ≡ t → countOf (read b) (length l) ≡ countIf t (length (runSaid b .tasks))
+  counts t q = ap (λ r. countOf r (length l)) (reads-whole b e) ∙ ap (λ x. countIf x (length (runSaid b .tasks))) q
+
+  pub plan-short : length l < n → Plans b l (record { number = 11; task = 0; count = 0 })
+  plan-short h =
+      let m = long in
+      let q = lt-leb (length (runSaid b .tasks)) (length l) (omega arith) in
+      let d = decodes false q in
+      record { refusal = sym (ap (λ x. x .refusal) d); stored = sym (ap (λ x. x .list) d); count = sym (counts false q); few = omega arith; room = omega arith }
+
+  pub plan-stored : n ≤ length l → Plans b l (record { number = 0; task = 0; count = n })
+  plan-stored h =
+      let m = long in
+      let few = few-tasks b e in
+      let q = le-leb (length (runSaid b .tasks)) (length l) (omega arith) in
+      let d = decodes true q in
+      let τs : tasksIn b n ≡ runSaid b .tasks = ap (tasksIn b) c ∙ sym (tasks-said b) in
+      record {
+        refusal = sym (ap (λ x. x .refusal) d);
+        stored = (λ κ. τs κ ++ drop (sym m κ) l) ∙ sym (ap (λ x. x .list) d);
+        count = sym (counts true q ∙ m);
+        few = omega arith;
+        room = h;
+      }

@@ -1,0 +1,166 @@
+// Decoded tasks in a list that the caller lends, one entry a task.
+use model::Task;
+use model::Tasks;
+use runfile::Judged;
+use runfile::judge_file;
+use runfile::task_at;
+use runfile::task_count;
+ghost use mathlib.Core.Path.{_≡_};
+ghost use mathlib.Core.List.{List, _++_};
+ghost use Prim.Native.Nat.{_+_, _*_, _-_, _<_, _≤_};
+ghost use lib.ListN.{length, take, drop, set, replicate};
+ghost use Rattle.model.specs.declared.task.Task.{Task as TaskValue};
+ghost use Rattle.model.specs.Model.{noTask};
+ghost use Rattle.model.specs.File.{taskAt, tasksIn, tasksPlace, taskSize};
+ghost use Rattle.runfile.specs.Judged.{told};
+ghost use Rattle.lent.specs.Lent.{refusalIn, Plans, Stores, noTasks, withTask, gathered};
+
+// What a decoding answers: the refusal's number and task, or number 0; and how many tasks it stored.
+pub struct Stored {
+    pub number: u32,
+    pub task: u32,
+    pub count: usize,
+}
+
+// The refusal of a judgement.
+fn refusal_of(j: Judged) -> Stored
+    ensures { λ r. ⌜ (refusalIn r ≡ told j) × (r .count ≡ 0) ⌝ }
+{
+    match j {
+        Judged::Fine => Stored {
+            number: 0,
+            task: 0,
+            count: 0,
+        },
+        Judged::Ends => Stored {
+            number: 1,
+            task: 0,
+            count: 0,
+        },
+        Judged::SettingCount => Stored {
+            number: 2,
+            task: 0,
+            count: 0,
+        },
+        Judged::SettingRange => Stored {
+            number: 3,
+            task: 0,
+            count: 0,
+        },
+        Judged::TaskCount => Stored {
+            number: 4,
+            task: 0,
+            count: 0,
+        },
+        Judged::TaskRange(i) => Stored {
+            number: 5,
+            task: i,
+            count: 0,
+        },
+        Judged::TooManyJobs => Stored {
+            number: 6,
+            task: 0,
+            count: 0,
+        },
+        Judged::RecordCount => Stored {
+            number: 7,
+            task: 0,
+            count: 0,
+        },
+        Judged::Trailing => Stored {
+            number: 8,
+            task: 0,
+            count: 0,
+        },
+    }
+}
+
+// What is answered, and how many tasks are to be stored in a list with room for so many: none where the file is refused or the list
+// is too short.
+pub fn planned(file: &[u8], room: usize) -> Stored
+    ensures { λ r. ⌜ ((list : List TaskValue) → length list ≡ room → Plans (now (file .entry)) list r) ⌝ }
+{
+    let refusal = refusal_of(judge_file(file));
+    if refusal.number != 0 {
+        return refusal;
+    }
+    let n = task_count(file) as usize;
+    if room < n {
+        return Stored {
+            number: 11,
+            task: 0,
+            count: 0,
+        };
+    }
+    Stored {
+        number: 0,
+        task: 0,
+        count: n,
+    }
+}
+
+// Task i of a file.
+pub fn task_of(file: &[u8], i: usize) -> Task
+    requires { ⌜ i < 32 ⌝ }
+    ensures { λ r. ⌜ r ≡ taskAt (now (file .entry)) (tasksPlace + 4 + taskSize * i) ⌝ }
+{
+    task_at(file, i as u32)
+}
+
+// The first n tasks of the file into the list; the entries past them keep their values.
+pub fn fill_tasks(file: &[u8], list: &mut [Task], n: usize)
+    requires { ⌜ (n ≤ 32) × (n ≤ length (now list)) ⌝ }
+    ensures { λ _. ⌜ now (list .exit) ≡ tasksIn (now (file .entry)) n ++ drop n (now (list .entry)) ⌝ }
+{
+    let mut i = 0;
+    while i < n {
+        list[i] = task_of(file, i);
+        i += 1;
+    }
+}
+
+// The tasks of a file into the list: the file's own refusals first, then 11 for a list with fewer entries than the file has tasks.
+// A refusal changes no entry, and entries past the last task keep their values.
+pub fn decode_tasks(file: &[u8], list: &mut [Task]) -> Stored
+    ensures { λ r. ⌜ Stores (now (file .entry)) (now (list .entry)) (now (list .exit)) r ⌝ }
+{
+    let d = planned(file, list.len());
+    fill_tasks(file, list, d.count);
+    d
+}
+
+pub fn no_tasks() -> Tasks
+    ensures { λ r. ⌜ r ≡ noTasks ⌝ }
+{
+    let none = Task {
+        period: 0,
+        least: 0,
+        greatest: 0,
+        offset: 0,
+        jitter: 0,
+    };
+    Tasks { list: [none; 32] }
+}
+
+pub fn with_task(tasks: Tasks, i: usize, task: Task) -> Tasks
+    requires { ⌜ i < 32 ⌝ }
+    ensures { λ r. ⌜ r ≡ withTask tasks i task ⌝ }
+{
+    let mut n = tasks;
+    n.list[i] = task;
+    n
+}
+
+// The first n tasks of a lent list as a value, and tasks of zeros after them.
+pub fn gather(list: &[Task], n: usize) -> Tasks
+    requires { ⌜ (n ≤ 32) × (n ≤ length (now list)) ⌝ }
+    ensures { λ r. ⌜ r ≡ gathered (now (list .entry)) n ⌝ }
+{
+    let mut tasks = no_tasks();
+    let mut i = 0;
+    while i < n {
+        tasks = with_task(tasks, i, list[i]);
+        i += 1;
+    }
+    tasks
+}
