@@ -1,5 +1,5 @@
 -- A file that is not refused, lent as its columns; and what is told of one that is refused. Assumes nothing.
-use Prim.Native.Nat.{ℕ, _+_, _-_, _≤_, _<_}
+use Prim.Native.Nat.{ℕ, _+_, _-_, _≤_}
 use mathlib.Core.Path.{_≡_, refl, sym, subst, _∙_, ap}
 use mathlib.Core.List.{List, [], _∷_, _++_, map}
 use mathlib.Core.Logic.{⊎-elim}
@@ -13,7 +13,7 @@ use Rattle.base.proofs.Find.{some≢none}
 use Rattle.model.specs.declared.setting.Setting.{Setting}
 use Rattle.model.specs.declared.task.Task.{Task}
 use Rattle.model.specs.declared.record.Record.{Record}
-use Rattle.model.specs.Model.{Run, WithinLimits, noTask, totalJobs}
+use Rattle.model.specs.Model.{Run, noTask, totalJobs}
 use Rattle.model.specs.File.{Read, refused, whole, read, refusalOf, num, settingAt, taskAt, recordAt, entries, tasksIn, runAt, tasksPlace, recordsPlace, taskSize, recordSize}
 use Rattle.model.specs.Answers.{Five, refusal}
 use Rattle.model.specs.Compute.Verdict.{verdict, check, checkOf}
