@@ -1,14 +1,16 @@
 -- The plan of a decoding, one law for each way. Assumes nothing.
-use Prim.Native.Nat.{ℕ, zero, suc, _≤_, _<_}
+use Prim.Native.Nat.{ℕ, zero, suc, _+_, _-_, _≤_, _<_}
 use mathlib.Core.Path.{_≡_, refl, sym, _∙_, ap}
 use mathlib.Core.Bool.{Bool, true, false, false≢true}
 use mathlib.Core.List.{List, _++_}
 use native.Mathlib.Omega.{arith}
 use borrow.Author.Tests.{le-leb, lt-leb}
 use lib.Dec.{leb}
-use lib.ListN.{length, drop}
+use lib.ListN.{length, drop, replicate, length-replicate, replicate-append-replicate}
+use lib.Seq.{drop-at}
 use Rattle.base.specs.Find.{found}
 use Rattle.model.specs.declared.task.Task.{Task}
+use Rattle.model.specs.Model.{noTask}
 use Rattle.model.specs.File.{Read, refused, whole, read, refusalOf, tasksIn, decoded, decodedIf, decodedOf}
 use Rattle.held.proofs.Whole.{Fine, tasksSaid, runSaid, reads-whole, tasks-counted, tasks-said, few-tasks}
 use Rattle.lent.specs.declared.Stored.{Stored}
@@ -71,3 +73,13 @@ module _ (b : List ℕ) (l : List Task) (e : Fine (read b)) {n : ℕ} (c : n ≡
         few = omega arith;
         room = h;
       }
+
+-- what is decoded of it into a list of zeros: its tasks, and zeros after them
+pub tasks-decoded : (b : List ℕ) → Fine (read b) → decoded b (replicate 32 noTask) .list ≡ tasksIn b (tasksSaid b) ++ replicate (32 - tasksSaid b) noTask
+tasks-decoded b e =
+    let n = tasksSaid b in
+    let few = few-tasks b e in
+    let all : n + (32 - n) ≡ 32 = omega arith in
+    let zeros : replicate n noTask ++ replicate (32 - n) noTask ≡ replicate 32 noTask = replicate-append-replicate n (32 - n) noTask ∙ ap (λ k. replicate k noTask) all in
+    let rest = ap (drop n) (sym zeros) ∙ drop-at (replicate n noTask) (replicate (32 - n) noTask) n (length-replicate n noTask) in
+    sym (plan-stored b (replicate 32 noTask) e refl few .stored) ∙ ap (λ l. tasksIn b n ++ l) rest

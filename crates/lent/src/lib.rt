@@ -11,7 +11,7 @@ ghost use Prim.Native.Nat.{_+_, _*_, _-_, _<_, _≤_};
 ghost use lib.ListN.{length, take, drop, set, replicate};
 ghost use Rattle.model.specs.declared.task.Task.{Task as TaskValue};
 ghost use Rattle.model.specs.Model.{noTask};
-ghost use Rattle.model.specs.File.{taskAt, tasksIn, tasksPlace, taskSize};
+ghost use Rattle.model.specs.File.{taskAt, tasksIn, tasksPlace, taskSize, decoded};
 ghost use Rattle.runfile.specs.Judged.{told};
 ghost use Rattle.lent.specs.Lent.{refusalIn, Plans, Stores, noTasks, withTask, gathered};
 
@@ -129,8 +129,9 @@ pub fn decode_tasks(file: &[u8], list: &mut [Task]) -> Stored
     d
 }
 
-pub fn no_tasks() -> Tasks
-    ensures { λ r. ⌜ r ≡ noTasks ⌝ }
+// A list of tasks of zeros, as long as a file can have tasks.
+fn no_list() -> [Task; 32]
+    ensures { λ r. ⌜ r ≡ replicate 32 noTask ⌝ }
 {
     let none = Task {
         period: 0,
@@ -139,7 +140,14 @@ pub fn no_tasks() -> Tasks
         offset: 0,
         jitter: 0,
     };
-    Tasks { list: [none; 32] }
+    [none; 32]
+}
+
+pub fn no_tasks() -> Tasks
+    ensures { λ r. ⌜ r ≡ noTasks ⌝ }
+{
+    let list = no_list();
+    Tasks { list: list }
 }
 
 pub fn with_task(tasks: Tasks, i: usize, task: Task) -> Tasks
@@ -163,4 +171,21 @@ pub fn gather(list: &[Task], n: usize) -> Tasks
         i += 1;
     }
     tasks
+}
+
+// The tasks of a file in a list of this function's own, which is lent to the decoding.
+fn list_of(file: &[u8]) -> [Task; 32]
+    ensures { λ r. ⌜ r ≡ decoded (now (file .entry)) (replicate 32 noTask) .list ⌝ }
+{
+    let mut list = no_list();
+    let d = decode_tasks(file, &mut list);
+    list
+}
+
+// The same as a value: tasks of zeros after the file's, and nothing else if the file is refused.
+pub fn tasks_of(file: &[u8]) -> Tasks
+    ensures { λ r. ⌜ r .list ≡ decoded (now (file .entry)) (replicate 32 noTask) .list ⌝ }
+{
+    let list = list_of(file);
+    Tasks { list: list }
 }
