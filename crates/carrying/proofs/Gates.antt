@@ -14,7 +14,7 @@ use Rattle.model.specs.Compute.Verdict.{verdict}
 use Rattle.model.specs.Carry.{carried, Carried, gateCarry, carriedFile, carryRun, carryOf, carry}
 use Rattle.model.proofs.Demand2.{accepted-exactly-if-obeyed}
 
-gate-opens : (ν : ℕ) (t : Bool) (o p : Carried) → t ≡ true → o ≡ p → gateCarry ν t o ≡ p
+pub gate-opens : (ν : ℕ) (t : Bool) (o p : Carried) → t ≡ true → o ≡ p → gateCarry ν t o ≡ p
 unfolding gateCarry
 gate-opens ν true o p e q = q
 gate-opens ν false o p e q = absurd (false≢true e)
@@ -33,7 +33,7 @@ pub record Passes (ρ : Run) (H′ room : ℕ) : Type 0 where
   pub fits : length (bytes (carried ρ H′)) ≤ room
 
 module _ (ρ : Run) (H′ room : ℕ) where
-  passes-writes : Passes ρ H′ room → carryRun ρ H′ room ≡ carriedFile (bytes (carried ρ H′))
+  pub passes-writes : Passes ρ H′ room → carryRun ρ H′ room ≡ carriedFile (bytes (carried ρ H′))
   unfolding carryRun
   passes-writes P =
       gate-opens 9 _ _ _ (says-true (says-and (says-leb (ρ .setting .horizon) H′) (says-leb H′ mostHorizon)) (P .longer, P .most))

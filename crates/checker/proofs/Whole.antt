@@ -1,14 +1,14 @@
 -- A file that is not refused, lent as its columns; and what is told of one that is refused. Assumes nothing.
 use Prim.Native.Nat.{ℕ, _+_, _-_, _≤_}
 use mathlib.Core.Path.{_≡_, refl, sym, subst, _∙_, ap}
-use mathlib.Core.List.{List, [], _∷_, _++_, map}
+use mathlib.Core.List.{List, [], _∷_, _++_, append-nil, map}
 use mathlib.Core.Logic.{⊎-elim}
 use mathlib.Core.Option.{Option, none, some}
 use native.Mathlib.Nat.{add-zero}
 use native.Mathlib.Omega.{arith}
 use lib.ListN.{length, replicate, take, drop}
 use types.Run.{OneOf}
-use lib.Seq.{take-at}
+use lib.Seq.{take-at, drop-length}
 use Rattle.base.proofs.Find.{some≢none}
 use Rattle.model.specs.declared.setting.Setting.{Setting}
 use Rattle.model.specs.declared.task.Task.{Task}
@@ -119,28 +119,30 @@ module _ (b : List ℕ) (ρ : Run) (e : read b ≡ whole ρ) where
     pub few-cores : σ .cores ≤ 16
     few-cores = subst (λ u. u .cores ≤ 16) (sym (pσ ∙ is-setting)) (read-limits b ρ e .setting .cores .1)
 
-    -- the numbers that were read into an array, at a place among the records' parts
-    abbrev FromPart : ℕ → List ℕ → Type 0
-    FromPart i xs = xs ≡ entries (num b) recordSize i l ++ drop l (replicate 512 0)
+    -- a column as long as there are records, into which the numbers at a place were read
+    front : (i : ℕ) (zs xs : List ℕ) → length zs ≡ l → xs ≡ entries (num b) recordSize i l ++ drop l zs → xs ≡ entries (num b) recordSize i l
+    front i zs xs z x =
+        x ∙ (λ κ. entries (num b) recordSize i l ++ drop (sym z κ) zs) ∙ ap (λ t. entries (num b) recordSize i l ++ t) (drop-length zs)
+        ∙ append-nil (entries (num b) recordSize i l)
 
-    front : (i : ℕ) (xs : List ℕ) → FromPart i xs → take l xs ≡ entries (num b) recordSize i l
-    front i xs x = ap (take l) x ∙ take-at (entries (num b) recordSize i l) (drop l (replicate 512 0)) l (length-entries (num b) recordSize i l)
+    filled : (part : Record → ℕ) (off : ℕ) → ((j : ℕ) → part (recordAt b j) ≡ num b (j + off)) → (zs xs : List ℕ) → length zs ≡ l → xs ≡ entries (num b) recordSize (a + off) l ++ drop l zs → xs ≡ map part (ρ .records)
+    filled part off same zs xs z x = front (a + off) zs xs z x ∙ (λ κ. entries (num b) recordSize (pa κ + off) (pl κ)) ∙ column part off same
 
-    front-column : (part : Record → ℕ) (off : ℕ) → ((j : ℕ) → part (recordAt b j) ≡ num b (j + off)) → (xs : List ℕ) → FromPart (a + off) xs → take l xs ≡ map part (ρ .records)
-    front-column part off same xs x = front (a + off) xs x ∙ (λ κ. entries (num b) recordSize (pa κ + off) (pl κ)) ∙ column part off same
-
-    pub lent : (is js rs ss es cs : List ℕ) → FromPart a is → FromPart (a + 4) js → FromPart (a + 8) rs → FromPart (a + 12) ss → FromPart (a + 16) es → FromPart (a + 20) cs
-        → Lent ρ σ τs k (take l is) (take l js) (take l rs) (take l ss) (take l es) (take l cs)
-    lent is js rs ss es cs i j r s f c =
+    pub lent : (iz jz rz sz fz cz is js rs ss es cs : List ℕ) → length iz ≡ l → length jz ≡ l → length rz ≡ l → length sz ≡ l → length fz ≡ l → length cz ≡ l
+        → is ≡ entries (num b) recordSize a l ++ drop l iz → js ≡ entries (num b) recordSize (a + 4) l ++ drop l jz
+        → rs ≡ entries (num b) recordSize (a + 8) l ++ drop l rz → ss ≡ entries (num b) recordSize (a + 12) l ++ drop l sz
+        → es ≡ entries (num b) recordSize (a + 16) l ++ drop l fz → cs ≡ entries (num b) recordSize (a + 20) l ++ drop l cz
+        → Lent ρ σ τs k is js rs ss es cs
+    lent iz jz rz sz fz cz is js rs ss es cs li lj lr ls lf lc i j r s f c =
         record {
           limits = read-limits b ρ e;
           setting = pσ ∙ is-setting;
           tasks = pτ ∙ (λ κ. tasksIn b (pk κ) ++ replicate (32 - pk κ) noTask) ∙ (λ κ. is-tasks κ ++ replicate (32 - is-count κ) noTask);
           count = pk ∙ is-count;
-          task = front a is i ∙ (λ κ. entries (num b) recordSize (pa κ) (pl κ)) ∙ first-column;
-          job = front-column (λ x. x .job) 4 (λ j. refl) js j;
-          release = front-column (λ x. x .release) 8 (λ j. refl) rs r;
-          start = front-column (λ x. x .start) 12 (λ j. refl) ss s;
-          end = front-column (λ x. x .end) 16 (λ j. refl) es f;
-          core = front-column (λ x. x .core) 20 (λ j. refl) cs c;
+          task = front a iz is li i ∙ (λ κ. entries (num b) recordSize (pa κ) (pl κ)) ∙ first-column;
+          job = filled (λ x. x .job) 4 (λ j. refl) jz js lj j;
+          release = filled (λ x. x .release) 8 (λ j. refl) rz rs lr r;
+          start = filled (λ x. x .start) 12 (λ j. refl) sz ss ls s;
+          end = filled (λ x. x .end) 16 (λ j. refl) fz es lf f;
+          core = filled (λ x. x .core) 20 (λ j. refl) cz cs lc c;
         }

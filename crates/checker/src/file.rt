@@ -12,9 +12,10 @@ use verdict::judge_run;
 ghost use mathlib.Core.Path.{_≡_};
 ghost use mathlib.Core.Option.{none, some};
 ghost use Prim.Native.Nat.{ℕ};
+ghost use lib.ListN.{length};
 ghost use Rattle.model.specs.Answers.{fiveOf, refusal};
 ghost use Rattle.model.specs.Compute.Verdict.{check};
-ghost use Rattle.model.specs.File.{read, refusalOf};
+ghost use Rattle.model.specs.File.{num, read, recordsPlace, refusalOf, tasksPlace};
 ghost use Rattle.runfile.specs.Judged.{told};
 
 // The answer of a file that is refused.
@@ -34,15 +35,38 @@ pub fn refused(j: Judged) -> Answer
     }
 }
 
-// The answer of a file that is not refused: each number is read once, into columns.
-fn check_whole(file: &[u8]) -> Answer
-    requires { ⌜ refusalOf (read (now file)) ≡ none ⌝ }
+// The answer of a file that is not refused, with columns as long as it has records: each number is read once, into them.
+fn check_columns(
+    file: &[u8],
+    task: &mut [u32],
+    job: &mut [u32],
+    release: &mut [u32],
+    start: &mut [u32],
+    end: &mut [u32],
+    core: &mut [u32],
+) -> Answer
+    requires { ⌜ (refusalOf (read (now file)) ≡ none)
+        × (length (now task) ≡ num (now file) (recordsPlace (num (now file) tasksPlace)))
+        × (length (now job) ≡ length (now task))
+        × (length (now release) ≡ length (now task))
+        × (length (now start) ≡ length (now task))
+        × (length (now end) ≡ length (now task))
+        × (length (now core) ≡ length (now task)) ⌝ }
     ensures { λ r. ⌜ fiveOf r ≡ check (now (file .entry)) ⌝ }
 {
     let setting = setting_of(file);
     let n = task_count(file);
     let tasks = read_tasks(file, n);
     let at = records_place(n) + 4;
+    read_records(file, at, task.len(), task, job, release, start, end, core);
+    judge_run(setting, tasks, n, task, job, release, start, end, core)
+}
+
+// The answer of a file that is not refused.
+fn check_whole(file: &[u8]) -> Answer
+    requires { ⌜ refusalOf (read (now file)) ≡ none ⌝ }
+    ensures { λ r. ⌜ fiveOf r ≡ check (now (file .entry)) ⌝ }
+{
     let m = record_count(file) as usize;
     let mut task = [0u32; 512];
     let mut job = [0u32; 512];
@@ -50,27 +74,14 @@ fn check_whole(file: &[u8]) -> Answer
     let mut start = [0u32; 512];
     let mut end = [0u32; 512];
     let mut core = [0u32; 512];
-    read_records(
+    check_columns(
         file,
-        at,
-        m,
-        &mut task,
-        &mut job,
-        &mut release,
-        &mut start,
-        &mut end,
-        &mut core,
-    );
-    judge_run(
-        setting,
-        tasks,
-        n,
-        &task[..m],
-        &job[..m],
-        &release[..m],
-        &start[..m],
-        &end[..m],
-        &core[..m],
+        &mut task[..m],
+        &mut job[..m],
+        &mut release[..m],
+        &mut start[..m],
+        &mut end[..m],
+        &mut core[..m],
     )
 }
 

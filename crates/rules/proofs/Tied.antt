@@ -16,13 +16,13 @@ use Rattle.rules.specs.Columns.{jobsOf, differIn, releasedBy, startedBy,
 use Rattle.rules.proofs.Write.{dues-at}
 
 -- two columns of one list are its jobs again
-jobs-of : {A : Type 0} (f g : A → ℕ) (xs : List A) → jobsOf (map f xs) (map g xs) ≡ map (λ x. (f x, g x)) xs
+pub jobs-of : {A : Type 0} (f g : A → ℕ) (xs : List A) → jobsOf (map f xs) (map g xs) ≡ map (λ x. (f x, g x)) xs
 jobs-of f g [] = refl
 jobs-of f g (x ∷ xs) = ap (λ qs. (f x, g x) ∷ qs) (jobs-of f g xs)
 
 module _ (ρ : Run) where
   -- one number of record k
-  number-at : (f : Record → ℕ) → f noRecord ≡ 0 → (k : ℕ) → getD (map f (ρ .records)) k 0 ≡ f (rec ρ k)
+  pub number-at : (f : Record → ℕ) → f noRecord ≡ 0 → (k : ℕ) → getD (map f (ρ .records)) k 0 ≡ f (rec ρ k)
   number-at f e k = ap (getD (map f (ρ .records)) k) (sym e) ∙ List·getD-map f (ρ .records) k noRecord
 
   -- two tests that say the same of every record find the same

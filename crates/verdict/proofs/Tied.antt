@@ -63,7 +63,7 @@ module _ {ρ : Run} {σ : Setting} {τs : List Task} {n : ℕ} {is js rs ss es c
   size-of : (f : Record → ℕ) {xs : List ℕ} → xs ≡ map f (ρ .records) → length xs ≡ size ρ
   size-of f z = ap length z ∙ length-map (ρ .records) f
 
-  task-same : (i : ℕ) → task τs i ≡ task (ρ .tasks) i
+  pub task-same : (i : ℕ) → task τs i ≡ task (ρ .tasks) i
   task-same i = ap (λ ts. task ts i) (L .tasks) ∙ task-padded (ρ .tasks) i
 
   exist : jobs (take n τs) (σ .horizon) ≡ existing ρ
