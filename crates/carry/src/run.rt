@@ -50,7 +50,7 @@ fn write_columns(
     whose: &[u32],
     which: &[u32],
     ranks: &mut [u64],
-    releases: &mut [u32],
+    ready: &mut [u32],
     starts: &mut [u32],
     ends: &mut [u32],
     cores: &mut [u32],
@@ -66,7 +66,7 @@ fn write_columns(
         × (length (now whose) ≤ 512)
         × (length (now which) ≡ length (now whose))
         × (length (now ranks) ≡ length (now whose))
-        × (length (now releases) ≡ length (now whose))
+        × (length (now ready) ≡ length (now whose))
         × (length (now starts) ≡ length (now whose))
         × (length (now ends) ≡ length (now whose))
         × (length (now cores) ≡ length (now whose))
@@ -79,8 +79,10 @@ fn write_columns(
         → Lent ρ setting (tasks .list) n (now (task .entry)) (now (job .entry)) (now (release .entry)) (now (start .entry)) (now (end .entry)) (now (core .entry))
         → now (output .exit) ≡ front (bytes (carried ρ horizon)) (now (output .entry))) ⌝ }
 {
+    let count = setting.cores;
+    let old = setting.horizon;
     open_columns(
-        setting.horizon,
+        old,
         tasks,
         task,
         job,
@@ -90,31 +92,21 @@ fn write_columns(
         core,
         whose,
         which,
-        releases,
+        ready,
         starts,
         ends,
         cores,
     );
     due_column(tasks, whose, which, ranks);
-    start_all(
-        setting.cores,
-        setting.horizon,
-        tasks,
-        whose,
-        releases,
-        ranks,
-        starts,
-        ends,
-        cores,
-    );
+    start_all(count, old, tasks, whose, ready, ranks, starts, ends, cores);
     write_run(
-        setting.cores,
+        count,
         horizon,
         tasks,
         n,
         whose,
         which,
-        releases,
+        ready,
         starts,
         ends,
         cores,

@@ -2,14 +2,15 @@
 -- jobs at H' and room for the output. Assumes nothing.
 use Prim.Native.Nat.{ℕ, _≤_}
 use mathlib.Core.Path.{_≡_, refl}
-use mathlib.Core.Bool.{Bool, true, false, false≢true}
+use mathlib.Core.Bool.{Bool, true, false, false≢true, true≢false}
 use native.Mathlib.Omega.{arith}
-use mathlib.Core.List.{List}
+use mathlib.Core.List.{List, []}
 use lib.ListN.{length}
 use Rattle.base.proofs.Test.{says-leb, says-and, says-true}
 use Rattle.model.specs.Model.{Run, mostHorizon, mostJobs, totalJobs}
 use Rattle.model.specs.File.{bytes, Read, refused, whole, read}
 use Rattle.model.specs.Rules.{Obeys}
+use Rattle.model.specs.Answers.{refusal}
 use Rattle.model.specs.Compute.Verdict.{verdict}
 use Rattle.model.specs.Carry.{carried, Carried, gateCarry, carriedFile, carryRun, carryOf, carry}
 use Rattle.model.proofs.Demand2.{accepted-exactly-if-obeyed}
@@ -18,6 +19,11 @@ pub gate-opens : (ν : ℕ) (t : Bool) (o p : Carried) → t ≡ true → o ≡ 
 unfolding gateCarry
 gate-opens ν true o p e q = q
 gate-opens ν false o p e q = absurd (false≢true e)
+
+pub gate-closes : (ν : ℕ) (t : Bool) (o : Carried) → t ≡ false → gateCarry ν t o ≡ record { told = refusal ν 0; writes = [] }
+unfolding gateCarry
+gate-closes ν true o e = absurd (true≢false e)
+gate-closes ν false o e = refl
 
 gate-opened : (ν : ℕ) (t : Bool) (o : Carried) → gateCarry ν t o .told .answer ≡ 5 → (t ≡ true) × (o .told .answer ≡ 5)
 unfolding gateCarry

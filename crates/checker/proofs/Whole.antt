@@ -78,11 +78,11 @@ module _ (b : List ℕ) (ρ : Run) (e : read b ≡ whole ρ) where
   abbrev at : ℕ
   at = recordsPlace n + 4
 
-  is-setting : settingAt b 4 ≡ ρ .setting
+  pub is-setting : settingAt b 4 ≡ ρ .setting
   unfolding runAt
   is-setting = ap (λ r. r .setting) (read-is b ρ e)
 
-  is-tasks : tasksIn b n ≡ ρ .tasks
+  pub is-tasks : tasksIn b n ≡ ρ .tasks
   unfolding runAt
   is-tasks = ap (λ r. r .tasks) (read-is b ρ e)
 

@@ -8,8 +8,8 @@ use borrow.Author.Needs.{needs}
 use borrow.Author.Tests.{lt-ltb, le-ltb}
 use Rattle.model.specs.Calls.{checkCall, checkCallIf, written}
 use Rattle.model.specs.Compute.Verdict.{check}
-use Rattle.octalmure.proofs.octalmure_check.Statement.{statement}
-use Rattle.octalmure.proofs.octalmure_check.Tie as tie
+use Rattle.octalmure.proofs.check.octalmure_check.Statement.{statement}
+use Rattle.octalmure.proofs.check.octalmure_check.Tie as tie
 
 short : (b a : List ℕ) → length a < 20 → checkCall b a ≡ record { returns = 4; answer = a }
 unfolding checkCall

@@ -1,0 +1,85 @@
+-- What the carry of a file says and writes, by what is read of it. Assumes nothing.
+use Prim.Native.Nat.{ℕ, _+_, _-_, _≤_, _<_}
+use mathlib.Core.Path.{_≡_, refl, sym, subst, _∙_, ap}
+use mathlib.Core.List.{List, [], _++_}
+use mathlib.Core.Option.{none, some}
+use native.Mathlib.Omega.{arith}
+use lib.ListN.{length, replicate, take}
+use lib.Seq.{take-at}
+use Rattle.base.proofs.Find.{some≢none}
+use Rattle.base.proofs.Test.{says-leb, says-and, says-true, says-false}
+use Rattle.model.specs.declared.task.Task.{Task}
+use Rattle.model.specs.Model.{Run, noTask, mostHorizon, mostJobs, totalJobs}
+use Rattle.model.specs.File.{Read, refused, whole, read, refusalOf, num, settingAt, taskAt, tasksIn, tasksPlace, taskSize}
+use Rattle.model.specs.Answers.{Five, refusal}
+use Rattle.model.specs.Calls.{front}
+use Rattle.model.specs.Carry.{Carried, carryRun, carryOf, carry}
+use Rattle.model.proofs.Reading.{length-entries}
+use Rattle.runfile.specs.Judged.{told}
+use Rattle.runfile.specs.declared.judge.Judged.{Judged}
+use Rattle.runfile.specs.declared.judge.Judged.the-variants.{Fine, Ends, SettingCount, SettingRange, TaskCount, TaskRange, TooManyJobs, RecordCount, Trailing}
+use Rattle.carrying.proofs.Gates.{gate-opens, gate-closes}
+use Rattle.carrier.specs.Told.{Carries}
+use Rattle.checker.proofs.Whole.{told-whole, is-setting, is-tasks}
+
+-- a carry that says so and writes nothing
+abbrev pub onlySays : Five → Carried
+onlySays f = record { told = f; writes = [] }
+
+-- what is told and written, of what the carry is
+pub tells : (b : List ℕ) (H′ : ℕ) (output after : List ℕ) {f : Five} {o : Carried} → carry b H′ (length output) ≡ o → (f ≡ o .told) × (after ≡ front (o .writes) output)
+    → Carries b H′ output f after
+tells b H′ output after e (f, w) = (f ∙ ap (λ x. x .told) (sym e), w ∙ ap (λ x. front (x .writes) output) (sym e))
+
+pub tells-refusal : (b : List ℕ) (H′ : ℕ) (output : List ℕ) {f : Five} → carry b H′ (length output) ≡ onlySays f → Carries b H′ output f output
+tells-refusal b H′ output e = tells b H′ output output e (refl, refl)
+
+-- The file's own refusals
+-- -----------------------
+told-none : (j : Judged) → told j ≡ none → j ≡ Fine
+told-none Fine e = refl
+told-none Ends e = absurd (some≢none e)
+told-none SettingCount e = absurd (some≢none e)
+told-none SettingRange e = absurd (some≢none e)
+told-none TaskCount e = absurd (some≢none e)
+told-none (TaskRange i) e = absurd (some≢none e)
+told-none TooManyJobs e = absurd (some≢none e)
+told-none RecordCount e = absurd (some≢none e)
+told-none Trailing e = absurd (some≢none e)
+
+module _ (b : List ℕ) (H′ room : ℕ) where
+  pub carry-fault : (j : Judged) (f : Five) → ¬ (j ≡ Fine) → told j ≡ refusalOf (read b) → ((ν i : ℕ) → told j ≡ some (ν, i) → f ≡ refusal ν i) → carry b H′ room ≡ onlySays f
+  unfolding carry
+  carry-fault j f h e g = go (read b) refl
+    where
+      go : (r : Read) → read b ≡ r → carryOf (read b) H′ room ≡ onlySays f
+      go (refused ν i) q = ap (λ r. carryOf r H′ room) q ∙ ap onlySays (sym (g ν i (e ∙ ap refusalOf q)))
+      go (whole ρ) q = absurd (h (told-none j (e ∙ ap refusalOf q)))
+
+  -- A file that is not refused: 9, 6, and then the rest
+  -- ---------------------------------------------------
+  pub carry-is : (ρ : Run) → read b ≡ whole ρ → carry b H′ room ≡ carryRun ρ H′ room
+  unfolding carry
+  carry-is ρ e = ap (λ r. carryOf r H′ room) e
+
+  module _ (fine : refusalOf (read b) ≡ none) where
+    pub says-9 : ¬ ((settingAt b 4 .horizon ≤ H′) × (H′ ≤ mostHorizon)) → carry b H′ room ≡ onlySays (refusal 9 0)
+    unfolding carryRun
+    says-9 h =
+        let (ρ, e) = told-whole b fine in
+        carry-is ρ e ∙ gate-closes 9 _ _ (says-false (says-and (says-leb (ρ .setting .horizon) H′) (says-leb H′ mostHorizon)) (subst (λ u. ¬ ((u .horizon ≤ H′) × (H′ ≤ mostHorizon))) (is-setting b ρ e) h))
+
+    pub says-6 : settingAt b 4 .horizon ≤ H′ → H′ ≤ mostHorizon → mostJobs < totalJobs (tasksIn b (num b tasksPlace)) H′ → carry b H′ room ≡ onlySays (refusal 6 0)
+    unfolding carryRun
+    says-6 longer most many =
+        let (ρ, e) = told-whole b fine in
+        let more : mostJobs < totalJobs (ρ .tasks) H′ = subst (λ us. mostJobs < totalJobs us H′) (is-tasks b ρ e) many in
+        carry-is ρ e ∙ gate-opens 9 _ _ _ (says-true (says-and (says-leb (ρ .setting .horizon) H′) (says-leb H′ mostHorizon)) (subst (λ u. u .horizon ≤ H′) (is-setting b ρ e) longer, most))
+        (gate-closes 6 _ _ (says-false (says-leb (totalJobs (ρ .tasks) H′) mostJobs) (λ g. omega (arith, more))))
+
+-- the jobs of the tasks that were read
+pub total-read : (b : List ℕ) (τs : List Task) (k H′ : ℕ) → τs ≡ tasksIn b k ++ replicate (32 - k) noTask → k ≡ num b tasksPlace
+    → totalJobs (tasksIn b (num b tasksPlace)) H′ ≡ totalJobs (take k τs) H′
+total-read b τs k H′ pτ pk =
+    ap (λ us. totalJobs us H′)
+    (ap (tasksIn b) (sym pk) ∙ sym (ap (take k) pτ ∙ take-at (tasksIn b k) (replicate (32 - k) noTask) k (length-entries (taskAt b) taskSize (tasksPlace + 4) k)))

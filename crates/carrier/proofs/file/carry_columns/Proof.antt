@@ -1,0 +1,134 @@
+-- The columns that were read are those of the run that the file tells. Assumes nothing.
+use Prim.Native.Nat.{_+_, _-_, _≤_}
+use mathlib.Core.Path.{_≡_, refl, sym, subst, _∙_}
+use mathlib.Core.List.{_++_}
+use native.Mathlib.Omega.{arith}
+use lib.ListN.{length, replicate}
+use denote.Ref.{now}
+use borrow.Author.Needs.{needs}
+use Rattle.model.specs.Model.{Run, noTask}
+use Rattle.model.specs.File.{read, whole, num, settingAt, tasksIn, tasksPlace, recordsPlace}
+use Rattle.checker.proofs.Whole.{told-whole, few-tasks, few-records, lent}
+use Rattle.carrier.proofs.Told.{tells, carry-is, total-read}
+use Rattle.carrier.proofs.file.carry_columns.Statement.{statement}
+use Rattle.carrier.proofs.file.carry_columns.Tie as tie
+
+-- the run that the file tells
+run : (s : tie.Start) → (ρ : Run) × (read (now (s .args .file)) ≡ whole ρ)
+run s = told-whole (now (s .args .file)) (s .pre .0 .0)
+
+few : (s : tie.Start) → length (now (s .args .task)) ≤ 512
+few s = let (ρ, e) = run s in omega (arith, few-records _ ρ e, s .pre .1)
+
+-- what was read before the columns
+abbrev Values : tie.After-records-place → Type 0
+Values c =
+    let b = now (c .before .before .before .before .before .before .before .before .before .before .before .before .args .file) in
+    let k = c .before .before .task-count .result in
+    (c .before .before .before .setting-of .result ≡ settingAt b 4)
+    × (c .before .read-tasks .result .list ≡ tasksIn b k ++ replicate (32 - k) noTask)
+    × (k ≡ num b tasksPlace)
+    × (c .records-place .result + 4 ≡ recordsPlace (num b tasksPlace) + 4)
+
+values : (c : tie.After-records-place) → Values c
+values c =
+    let k = c .before .before .task-count .ensures in
+    (c .before .before .before .setting-of .ensures, c .before .read-tasks .ensures, k, omega (arith, k, c .records-place .ensures))
+
+setting-of-requires : tie.Need-setting-of-requires
+setting-of-requires c κs = search needs
+
+task-count-requires : tie.Need-task-count-requires
+task-count-requires c κs = search needs
+
+read-tasks-requires : tie.Need-read-tasks-requires
+read-tasks-requires c κs =
+    let (ρ, e) = run (c .before .before .before .before .before .before .before .before .before .before) in
+    omega (arith, few-tasks _ ρ e, c .task-count .ensures)
+
+records-place-requires : tie.Need-records-place-requires
+records-place-requires c κs = search needs
+
+add-at : tie.Need-add-at
+add-at c = search needs
+
+read-records-requires : tie.Need-read-records-requires
+read-records-requires c κs =
+    let s = c .before .before .before .before .before .before .before .before .before .before .before .before .before .before .before .before .before .before in
+    let (ρ, e) = run s in
+    let m = few s in
+    (omega (arith, few-tasks _ ρ e, values (c .before .before .before .before .before .before) .3), m, search needs, search needs, search needs, search needs, search needs, search needs)
+
+carry-run-requires : tie.Need-carry-run-requires
+carry-run-requires c κs =
+    let s = c .before .before .before .before .before .before .before .before .before .before .before .before .before .before .before .before .before .before .before .before .before .before .before .before .before .before .before .before .before .before .before .before .before .before .before .before .before .before in
+    let b = now (s .args .file) in
+    let (ρ, e) = run s in
+    let (pσ, pτ, pk, pa) = values (c .before .before .before .before .before .before .before .before .before .before .before .before .before .before .before .before .before .before .before .before .before .before .before .before .before .before) in
+    let ((known, longer, most, total, few-m), l, lj, lr, ls, lf, lc) = s .pre in
+    let (i, j, r, t, f, p) = c .before .before .before .before .before .before .before .before .before .before .before .before .before .before .before .before .before .before .before .read-records .ensures in
+    let m = few s in (
+      omega (arith, few-tasks _ ρ e, pk),
+      few-m,
+      total ∙ total-read b _ _ _ pτ pk,
+      search needs,
+      search needs,
+      search needs,
+      search needs,
+      search needs,
+      search needs,
+      subst (λ u. u .horizon ≤ s .args .horizon) (sym pσ) longer,
+      most,
+      (ρ, lent b ρ e _ _ _ _ _ pσ pτ pk pa l _ _ _ _ _ _ _ _ _ _ _ _ refl lj lr ls lf lc i j r t f p),
+    )
+
+same-length : tie.Need-same-length
+same-length c = search needs
+
+same-length-2 : tie.Need-same-length-2
+same-length-2 c = search needs
+
+same-length-3 : tie.Need-same-length-3
+same-length-3 c = search needs
+
+same-length-4 : tie.Need-same-length-4
+same-length-4 c = search needs
+
+same-length-5 : tie.Need-same-length-5
+same-length-5 c = search needs
+
+same-length-6 : tie.Need-same-length-6
+same-length-6 c = search needs
+
+same-length-7 : tie.Need-same-length-7
+same-length-7 c = search needs
+
+returns : tie.Need-returns
+returns c =
+    let s = c .before .before .before .before .before .before .before .before .before .before .before .before .before .before .before .before .before .before .before .before .before .before .before .before .before .before .before .before .before .before .before .before .before .before .before .before .before .before .before .before .before in
+    let b = now (s .args .file) in
+    let (ρ, e) = run s in
+    let (pσ, pτ, pk, pa) = values (c .before .before .before .before .before .before .before .before .before .before .before .before .before .before .before .before .before .before .before .before .before .before .before .before .before .before .before .before .before) in
+    let (given, l, lj, lr, ls, lf, lc) = s .pre in
+    let (i, j, r, t, f, p) = c .before .before .before .before .before .before .before .before .before .before .before .before .before .before .before .before .before .before .before .before .before .before .read-records .ensures in
+    tells b _ (now (s .args .output)) _ (carry-is b _ _ ρ e) (c .before .before .carry-run .ensures ρ (lent b ρ e _ _ _ _ _ pσ pτ pk pa l _ _ _ _ _ _ _ _ _ _ _ _ refl lj lr ls lf lc i j r t f p))
+
+pub carry-columns-spec : {M : Type 1} → statement M
+carry-columns-spec =
+    tie.close
+    (tie.spec
+    setting-of-requires
+    task-count-requires
+    read-tasks-requires
+    records-place-requires
+    add-at
+    read-records-requires
+    carry-run-requires
+    same-length
+    same-length-2
+    same-length-3
+    same-length-4
+    same-length-5
+    same-length-6
+    same-length-7
+    returns)

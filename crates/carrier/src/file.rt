@@ -1,0 +1,112 @@
+// What a carry of a file says, and what it writes.
+use carry::carry_run;
+use checker::refused;
+use model::Answer;
+use model::Setting;
+use runfile::Judged;
+use runfile::judge_file;
+use runfile::read_records;
+use runfile::read_tasks;
+use runfile::record_count;
+use runfile::records_place;
+use runfile::setting_of;
+use runfile::task_count;
+use runfile::total_jobs;
+ghost use mathlib.Core.Path.{_≡_};
+ghost use lib.ListN.{length};
+ghost use Rattle.model.specs.Answers.{fiveOf};
+ghost use Rattle.model.specs.File.{num, tasksPlace, recordsPlace};
+ghost use Rattle.carrier.specs.Told.{Carriable, Carries};
+
+// The carry of a file that is not refused, to a horizon within the limits at which it has m jobs, with columns as long as it has
+// records: each number is read once, into them.
+fn carry_columns(
+    file: &[u8],
+    horizon: u32,
+    m: u32,
+    task: &mut [u32],
+    job: &mut [u32],
+    release: &mut [u32],
+    start: &mut [u32],
+    end: &mut [u32],
+    core: &mut [u32],
+    output: &mut [u8],
+) -> Answer
+    requires { ⌜ Carriable (now file) horizon m
+        × (length (now task) ≡ num (now file) (recordsPlace (num (now file) tasksPlace)))
+        × (length (now job) ≡ length (now task))
+        × (length (now release) ≡ length (now task))
+        × (length (now start) ≡ length (now task))
+        × (length (now end) ≡ length (now task))
+        × (length (now core) ≡ length (now task)) ⌝ }
+    ensures { λ r. ⌜ Carries (now (file .entry)) horizon (now (output .entry)) (fiveOf r) (now (output .exit)) ⌝ }
+{
+    let setting = setting_of(file);
+    let n = task_count(file);
+    let tasks = read_tasks(file, n);
+    let at = records_place(n) + 4;
+    read_records(file, at, task.len(), task, job, release, start, end, core);
+    carry_run(
+        setting,
+        tasks,
+        n,
+        horizon,
+        m,
+        task,
+        job,
+        release,
+        start,
+        end,
+        core,
+        output,
+    )
+}
+
+// The carry of a file that is not refused, to a horizon within the limits at which it has m jobs: 10, 11, or it is written.
+fn carry_whole(file: &[u8], horizon: u32, m: u32, output: &mut [u8]) -> Answer
+    requires { ⌜ Carriable (now file) horizon m ⌝ }
+    ensures { λ r. ⌜ Carries (now (file .entry)) horizon (now (output .entry)) (fiveOf r) (now (output .exit)) ⌝ }
+{
+    let k = record_count(file) as usize;
+    let mut task = [0u32; 512];
+    let mut job = [0u32; 512];
+    let mut release = [0u32; 512];
+    let mut start = [0u32; 512];
+    let mut end = [0u32; 512];
+    let mut core = [0u32; 512];
+    carry_columns(
+        file,
+        horizon,
+        m,
+        &mut task[..k],
+        &mut job[..k],
+        &mut release[..k],
+        &mut start[..k],
+        &mut end[..k],
+        &mut core[..k],
+        output,
+    )
+}
+
+// The carry of any file: its own refusals, 9, 6, and then the rest.
+pub fn carry_file(file: &[u8], horizon: u32, output: &mut [u8]) -> Answer
+    ensures { λ r. ⌜ Carries (now (file .entry)) horizon (now (output .entry)) (fiveOf r) (now (output .exit)) ⌝ }
+{
+    let j = judge_file(file);
+    let Judged::Fine = j else {
+        return refused(j);
+    };
+    let setting = setting_of(file);
+    if horizon < setting.horizon {
+        return Answer::Refused(9, 0);
+    }
+    if Setting::MOST_HORIZON < horizon {
+        return Answer::Refused(9, 0);
+    }
+    let n = task_count(file);
+    let m = total_jobs(file, n, horizon);
+    if 512 < m {
+        return Answer::Refused(6, 0);
+    }
+    carry_whole(file, horizon, m as u32, output)
+}

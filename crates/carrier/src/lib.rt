@@ -1,0 +1,4 @@
+// Carrying a file to a longer horizon.
+mod file;
+
+pub use file::carry_file;

@@ -1,0 +1,398 @@
+/* harness SEED COUNT [PATH]         holds the library to the oracle on COUNT cases; PATH gets the first file they differ on
+   harness --self SEED COUNT [PATH]  holds the oracle to itself, to the laws of the slices and to a word by word reading
+   Both try the worked runs of the paper too. */
+#include <inttypes.h>
+#include <stdbool.h>
+#include <stdio.h>
+#include <stdlib.h>
+#include <string.h>
+
+#include "cases.h"
+#include "literal.h"
+#include "oracle.h"
+#include "subject.h"
+#include "worked.h"
+
+#ifndef ORACLE_ONLY
+extern uint32_t octalmure_check(const uint8_t *file, size_t file_length, uint8_t *answer, size_t answer_length);
+extern uint32_t octalmure_carry(const uint8_t *file, size_t file_length, uint32_t horizon, uint8_t *output, size_t output_length,
+                                uint8_t *answer, size_t answer_length);
+#endif
+
+enum { CANARY = 32, ALIGNMENTS = 8, ANSWER_BYTES = 20, REFUSED = 4, CARRIED = 5, MOST_REPORTS = 20, ENOUGH_CASES = 50000 };
+
+/* ---- lent slices ---- */
+
+/* A slice with canary bytes in front of it and behind. The front varies, so that slices stand at all alignments. */
+typedef struct {
+    uint8_t memory[CANARY + ALIGNMENTS + MOST_CASE_BYTES + CANARY];
+    size_t front, length;
+} Lent;
+
+static uint8_t pattern(size_t at) {
+    return (uint8_t)(0xA5 ^ at * 37 ^ at >> 8);
+}
+
+static uint8_t *slice(Lent *lent) {
+    return lent->memory + lent->front;
+}
+
+static size_t all_of(const Lent *lent) {
+    return lent->front + lent->length + CANARY;
+}
+
+/* Contents may be NULL: then the slice, too, has the pattern, and it shows which bytes were written. */
+static void lend(Lent *lent, size_t alignment, size_t length, const uint8_t *contents) {
+    static uint8_t filled[sizeof lent->memory];
+    if (filled[0] != pattern(0)) {
+        for (size_t i = 0; i < sizeof filled; i++) {
+            filled[i] = pattern(i);
+        }
+    }
+    lent->front = CANARY + alignment % ALIGNMENTS;
+    lent->length = length;
+    memcpy(lent->memory, filled, all_of(lent));
+    if (contents != NULL) {
+        memcpy(slice(lent), contents, length);
+    }
+}
+
+static bool patterned(const Lent *lent, size_t from, size_t to) {
+    for (size_t i = from; i < to; i++) {
+        if (lent->memory[i] != pattern(i)) {
+            return false;
+        }
+    }
+    return true;
+}
+
+static bool canaries_whole(const Lent *lent) {
+    return patterned(lent, 0, lent->front) && patterned(lent, lent->front + lent->length, all_of(lent));
+}
+
+/* Whether the slice and what is around it have their pattern, but for its first bytes. */
+static bool changed_only(const Lent *lent, size_t first) {
+    return patterned(lent, 0, lent->front) && patterned(lent, lent->front + first, all_of(lent));
+}
+
+static bool same_bytes(const Lent *a, const Lent *b) {
+    return all_of(a) == all_of(b) && memcmp(a->memory, b->memory, all_of(a)) == 0;
+}
+
+/* ---- one call ---- */
+
+typedef struct {
+    Lent file, output, answer;
+    uint32_t returned, numbers[5];
+    bool answered; /* the answer slice was long enough */
+} Call;
+
+static uint32_t number_at(const uint8_t *bytes) {
+    return (uint32_t)bytes[0] | (uint32_t)bytes[1] << 8 | (uint32_t)bytes[2] << 16 | (uint32_t)bytes[3] << 24;
+}
+
+static void lend_all(Call *call, const uint8_t *file, size_t length, size_t output_length, size_t answer_length) {
+    lend(&call->file, length, length, file);
+    lend(&call->output, length + 3, output_length, NULL);
+    lend(&call->answer, length + 5, answer_length, NULL);
+}
+
+static void note_answer(Call *call, uint32_t returned) {
+    call->returned = returned;
+    call->answered = call->answer.length >= ANSWER_BYTES;
+    for (size_t i = 0; i < 5; i++) {
+        call->numbers[i] = call->answered ? number_at(slice(&call->answer) + 4 * i) : 0;
+    }
+}
+
+static void call_check(const Subject *subject, const uint8_t *file, size_t length, size_t answer_length, Call *call) {
+    lend_all(call, file, length, 0, answer_length);
+    note_answer(call, subject->check(slice(&call->file), length, slice(&call->answer), answer_length));
+}
+
+static void call_carry(const Subject *subject, const Case *made, Call *call) {
+    lend_all(call, made->file, made->length, made->output_length, made->carry_answer_length);
+    note_answer(call, subject->carry(slice(&call->file), made->length, made->horizon, slice(&call->output), made->output_length,
+                                     slice(&call->answer), made->carry_answer_length));
+}
+
+/* What holds of every call, whatever the answer. Returns what is wrong, or NULL. */
+static const char *broken_law(Call *call, const uint8_t *file) {
+    uint32_t written = call->answered && call->returned == CARRIED ? call->numbers[1] : 0;
+    if (!canaries_whole(&call->file) || memcmp(slice(&call->file), file, call->file.length) != 0) {
+        return "the file slice or what is around it changed";
+    }
+    if (!call->answered && call->returned != REFUSED) {
+        return "a short answer slice and not answer 4";
+    }
+    if (!changed_only(&call->answer, call->answered ? ANSWER_BYTES : 0)) {
+        return "bytes of the answer slice, or around it, that must not change";
+    }
+    if (call->answered && call->returned != call->numbers[0]) {
+        return "the number returned is not the first of the answer";
+    }
+    if (written > call->output.length || !changed_only(&call->output, written)) {
+        return "bytes of the output, or around it, that must not change";
+    }
+    return NULL;
+}
+
+static const char *difference(const Call *subject, const Call *oracle) {
+    if (subject->returned != oracle->returned) {
+        return "the number returned differs";
+    }
+    if (!same_bytes(&subject->answer, &oracle->answer)) {
+        return "the answer slices differ";
+    }
+    if (!same_bytes(&subject->output, &oracle->output)) {
+        return "the outputs differ";
+    }
+    return same_bytes(&subject->file, &oracle->file) ? NULL : "the file slices differ";
+}
+
+static const char *first_of(const char *a, const char *b) {
+    return a != NULL ? a : b;
+}
+
+/* ---- what was met ---- */
+
+typedef struct {
+    uint64_t answers[6], rules[9], refusals[12], short_slices;
+} Met;
+
+typedef struct {
+    Met check, carry, carried;
+    uint64_t literal_idling, literal_carried;
+} Tally;
+
+static void meet(Met *met, const Call *call) {
+    if (!call->answered) {
+        met->short_slices++;
+    } else if (call->returned <= CARRIED) {
+        met->answers[call->returned]++;
+        met->rules[call->returned == 3 ? call->numbers[1] % 9 : 0]++;
+        met->refusals[call->returned == REFUSED ? call->numbers[1] % 12 : 0]++;
+    }
+}
+
+static void print_counts(const char *what, const uint64_t *counts, uint32_t from, uint32_t to) {
+    printf("  %-9s", what);
+    for (uint32_t i = from; i <= to; i++) {
+        printf(" %" PRIu32 ":%" PRIu64, i, counts[i]);
+    }
+    printf("\n");
+}
+
+static void print_met(const char *name, const Met *met) {
+    printf("%s\n", name);
+    print_counts("answers", met->answers, 0, 5);
+    print_counts("rules", met->rules, 1, 8);
+    print_counts("refusals", met->refusals, 1, 11);
+    printf("  short answer slices %" PRIu64 "\n", met->short_slices);
+}
+
+static uint64_t never_met(const char *what, const uint64_t *check, const uint64_t *carry, uint32_t from, uint32_t to) {
+    uint64_t count = 0;
+    for (uint32_t i = from; i <= to; i++) {
+        if (check[i] + carry[i] == 0) {
+            printf("%s %" PRIu32 " was never met\n", what, i);
+            count++;
+        }
+    }
+    return count;
+}
+
+static uint64_t never_met_at_all(const Tally *tally) {
+    const Met *check = &tally->check, *carry = &tally->carry;
+    return never_met("answer", check->answers, carry->answers, 0, 5) + never_met("rule", check->rules, carry->rules, 1, 8) +
+           never_met("refusal", check->refusals, carry->refusals, 1, 11);
+}
+
+/* ---- the trial of a case ---- */
+
+typedef struct {
+    const Subject *subject;
+    bool self;
+    uint64_t seed, reports;
+    const char *path;
+    Tally tally;
+    Case made;
+    Call subject_call, oracle_call;
+} Trial;
+
+static const Subject the_oracle = {"oracle", oracle_check, oracle_carry};
+
+static void print_call(const char *name, const Call *call) {
+    printf("  %-8s returned %" PRIu32, name, call->returned);
+    if (call->answered) {
+        const uint32_t *n = call->numbers;
+        printf(": %" PRIu32 " %" PRIu32 " %" PRIu32 " %" PRIu32 " %" PRIu32, n[0], n[1], n[2], n[3], n[4]);
+    }
+    printf("\n");
+}
+
+static void write_to(const char *path, const uint8_t *bytes, size_t length) {
+    FILE *out = fopen(path, "wb");
+    if (out == NULL || fwrite(bytes, 1, length, out) != length) {
+        printf("  the file could not be written to %s\n", path);
+    }
+    if (out != NULL) {
+        fclose(out);
+    }
+}
+
+/* Reports the first few in full; the file of the first stays at the path. */
+static void report(Trial *trial, uint64_t number, const char *call, const char *wrong) {
+    const Case *made = &trial->made;
+    trial->reports++;
+    if (trial->reports > MOST_REPORTS) {
+        return;
+    }
+    printf("seed %" PRIu64 " case %" PRIu64 " %s: %s\n", trial->seed, number, call, wrong);
+    printf("  file %zu bytes, carried to %" PRIu32 ", output %zu bytes, answer slices %zu and %zu bytes\n", made->length,
+           made->horizon, made->output_length, made->check_answer_length, made->carry_answer_length);
+    print_call(trial->subject->name, &trial->subject_call);
+    print_call(the_oracle.name, &trial->oracle_call);
+    if (trial->reports == 1 && trial->path != NULL) {
+        write_to(trial->path, made->file, made->length);
+    }
+}
+
+/* Compares the two calls just made over the file. */
+static const char *judge_calls(Trial *trial, const uint8_t *file) {
+    Call *subject = &trial->subject_call, *oracle = &trial->oracle_call;
+    return first_of(first_of(broken_law(oracle, file), broken_law(subject, file)), difference(subject, oracle));
+}
+
+/* The oracle said that rule 8 is broken there, or that no rule is. */
+static const char *judge_idling(Trial *trial) {
+    const Call *call = &trial->oracle_call;
+    uint32_t place[3] = {0, 0, 0};
+    bool rule_8 = call->returned == 3 && call->numbers[1] == 8;
+    if (!trial->self || !call->answered || !(rule_8 || call->returned <= 2) || !literal_applies(trial->made.file)) {
+        return NULL;
+    }
+    trial->tally.literal_idling++;
+    bool broken = literal_idling(trial->made.file, place);
+    bool same = broken == rule_8 && (!broken || memcmp(place, call->numbers + 2, sizeof place) == 0);
+    return same ? NULL : "rule 8, read tick by tick, says otherwise";
+}
+
+static const char *try_check(Trial *trial) {
+    const Case *made = &trial->made;
+    call_check(trial->subject, made->file, made->length, made->check_answer_length, &trial->subject_call);
+    call_check(&the_oracle, made->file, made->length, made->check_answer_length, &trial->oracle_call);
+    meet(&trial->tally.check, &trial->oracle_call);
+    if (made->permitted && trial->oracle_call.answered && trial->oracle_call.returned > 2) {
+        return "the run of a server without a fault is not accepted";
+    }
+    return first_of(judge_calls(trial, made->file), judge_idling(trial));
+}
+
+static const char *try_carry(Trial *trial) {
+    const Case *made = &trial->made;
+    call_carry(trial->subject, made, &trial->subject_call);
+    call_carry(&the_oracle, made, &trial->oracle_call);
+    meet(&trial->tally.carry, &trial->oracle_call);
+    return judge_calls(trial, made->file);
+}
+
+/* The outputs are known to be the same file: both checkers must accept it. */
+static const char *try_carried_file(Trial *trial) {
+    uint8_t carried[MOST_CASE_BYTES];
+    size_t length = trial->oracle_call.numbers[1];
+    memcpy(carried, slice(&trial->oracle_call.output), length);
+    call_check(trial->subject, carried, length, ANSWER_BYTES, &trial->subject_call);
+    call_check(&the_oracle, carried, length, ANSWER_BYTES, &trial->oracle_call);
+    meet(&trial->tally.carried, &trial->oracle_call);
+    if (trial->oracle_call.returned > 2) {
+        return "the carried run is not accepted";
+    }
+    if (trial->self && literal_applies(carried)) {
+        trial->tally.literal_carried++;
+        if (!literal_carried(trial->made.file, carried)) {
+            return "carrying, read tick by tick, says otherwise";
+        }
+    }
+    return judge_calls(trial, carried);
+}
+
+/* Whether the case went without a difference. Carrying is tried even where checking differs: it tells more. */
+static bool try_case(Trial *trial, uint64_t number) {
+    make_case(trial->seed, number, &trial->made);
+    const char *wrong = try_check(trial);
+    bool same = wrong == NULL;
+    if (wrong != NULL) {
+        report(trial, number, "check", wrong);
+    }
+    wrong = try_carry(trial);
+    const char *call = "carry";
+    if (wrong == NULL && trial->oracle_call.answered && trial->oracle_call.returned == CARRIED) {
+        call = "check of the carried file";
+        wrong = try_carried_file(trial);
+    }
+    if (wrong != NULL) {
+        report(trial, number, call, wrong);
+    }
+    return same && wrong == NULL;
+}
+
+/* ---- the program ---- */
+
+static void print_tally(const Trial *trial) {
+    print_met("check", &trial->tally.check);
+    print_met("carry", &trial->tally.carry);
+    printf("carried files\n");
+    print_counts("answers", trial->tally.carried.answers, 0, 3);
+    if (trial->self) {
+        printf("read tick by tick: rule 8 %" PRIu64 ", carried files %" PRIu64 "\n", trial->tally.literal_idling,
+               trial->tally.literal_carried);
+    }
+}
+
+static int try_all(Trial *trial, uint64_t count) {
+    Counted sum = try_worked_runs(trial->subject);
+    for (uint64_t number = 0; number < count; number++) {
+        bool same = try_case(trial, number);
+        sum.passed += same;
+        sum.failed += !same;
+    }
+    print_tally(trial);
+    if (count >= ENOUGH_CASES) {
+        sum.failed += never_met_at_all(&trial->tally);
+    }
+    printf("%" PRIu64 " passed, %" PRIu64 " failed\n", sum.passed, sum.failed);
+    return sum.failed == 0 ? EXIT_SUCCESS : EXIT_FAILURE;
+}
+
+static const Subject *the_library(void) {
+#ifdef ORACLE_ONLY
+    return NULL;
+#else
+    static const Subject library = {"library", octalmure_check, octalmure_carry};
+    return &library;
+#endif
+}
+
+static bool read_number(const char *text, uint64_t *number) {
+    char *end;
+    *number = strtoull(text, &end, 10);
+    return *text != '\0' && *end == '\0';
+}
+
+int main(int argc, char **argv) {
+    static Trial trial;
+    uint64_t count;
+    trial.self = argc > 1 && strcmp(argv[1], "--self") == 0;
+    int first = trial.self ? 2 : 1;
+    trial.subject = trial.self ? &the_oracle : the_library();
+    bool right = (argc == first + 2 || argc == first + 3) && read_number(argv[first], &trial.seed);
+    if (!right || !read_number(argv[first + 1], &count) || trial.subject == NULL) {
+        const char *only = the_library() == NULL ? " (this one only with --self)" : "";
+        fprintf(stderr, "usage: harness [--self] SEED COUNT [PATH]%s\n", only);
+        return 2;
+    }
+    trial.path = argc == first + 3 ? argv[first + 2] : NULL;
+    setvbuf(stdout, NULL, _IOLBF, BUFSIZ); /* so that reports are seen even if a later call does not return */
+    return try_all(&trial, count);
+}
