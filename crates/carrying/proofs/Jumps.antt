@@ -23,7 +23,7 @@ pub start-some : (m t u k c : ℕ) (σ : Run) → nextStart σ t ≡ some (u, (k
 unfolding startAll
 start-some m t u k c σ e = rw (e, startAll)
 
-start-none : (m t : ℕ) (σ : Run) → nextStart σ t ≡ none → startAll m t σ ≡ σ
+pub start-none : (m t : ℕ) (σ : Run) → nextStart σ t ≡ none → startAll m t σ ≡ σ
 unfolding startAll
 start-none zero t σ e = refl
 start-none (suc m) t σ e = rw (e, startAll)
@@ -47,7 +47,7 @@ each-yes n t σ e = rw (e, atEachInstant)
 
 -- From start to start, as many as wait
 -- ------------------------------------
-abbrev allStart : ℕ → Run → Run
+abbrev pub allStart : ℕ → Run → Run
 allStart t σ = startAll (waiting σ) t σ
 
 none-starts : (t : ℕ) (σ : Run) → waiting σ ≡ 0 → allStart t σ ≡ σ
@@ -56,14 +56,14 @@ none-starts t σ e = rw e (start-zero t σ)
 instants-suc : (t : ℕ) → t < 2 ^ 32 → instantsFrom t ≡ suc (instantsFrom (suc t))
 instants-suc t l = omega arith
 
-starts-here : (t k c : ℕ) (σ : Run) → t < 2 ^ 32 → startAt σ t ≡ some (k, c) → allStart t σ ≡ allStart t (starts σ t k c)
+pub starts-here : (t k c : ℕ) (σ : Run) → t < 2 ^ 32 → startAt σ t ≡ some (k, c) → allStart t σ ≡ allStart t (starts σ t k c)
 unfolding nextStart
 starts-here t k c σ l e =
     let S = start-at σ t k c e in
     let here : nextStart σ t ≡ some (t, (k, c)) = rw (instants-suc t l) (firstOf-yes (startAt σ) t (instantsFrom (suc t)) (k, c) e) in
     ap (λ m. startAll m t σ) (fewer-wait σ t k c (S .is-next .range) (S .is-next .can .0) (S .core .0)) ∙ start-some _ t t k c σ here
 
-starts-later : (m t : ℕ) (σ : Run) → t < 2 ^ 32 → startAt σ t ≡ none → startAll m t σ ≡ startAll m (suc t) σ
+pub starts-later : (m t : ℕ) (σ : Run) → t < 2 ^ 32 → startAt σ t ≡ none → startAll m t σ ≡ startAll m (suc t) σ
 unfolding nextStart startAll
 starts-later zero t σ l e = refl
 starts-later (suc m) t σ l e =

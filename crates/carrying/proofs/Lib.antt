@@ -13,3 +13,7 @@ pub mod Gates
 pub mod Demand3
 pub mod Columns
 pub mod Widen
+pub mod MoreJobs
+pub mod Longer
+pub mod Later
+pub mod Walk

@@ -87,7 +87,7 @@ module _ (σ : Run) where
     pub can : CanStart t k
     pub first : (j : ℕ) → IsRecord σ j → CanStart t j → ¬ GoesBefore j k
 
-  next-finds : (t : ℕ) → Finds _<_ (IsNext t) (next σ t)
+  pub next-finds : (t : ℕ) → Finds _<_ (IsNext t) (next σ t)
   next-finds t =
       finds-same
       (λ k h. record { range = omega (arith, h .1); can = h .2 .0; first = λ j l c b. h .2 .1 (j, (omega arith, omega (arith, l), (c, b))) })
