@@ -24,10 +24,10 @@ use Rattle.carrying.proofs.Step.{Begun, Waited, Inv}
 -- The jobs of the longer run
 -- --------------------------
 module _ (ρ : Run) where
-  abbrev RecordOf : Job → ℕ → Type 0
+  abbrev pub RecordOf : Job → ℕ → Type 0
   RecordOf q k = IsRecord ρ k × (jobOf (rec ρ k) ≡ q)
 
-  place-finds : (q : Job) → Finds _<_ (RecordOf q) (placeOf ρ q)
+  pub place-finds : (q : Job) → Finds _<_ (RecordOf q) (placeOf ρ q)
   place-finds q =
       finds-same (λ k h. (omega (arith, h .1), h .2)) (λ k h. (omega arith, omega (arith, h .0), h .1))
       (first-finds _ _ (λ k. says-same-job (jobOf (rec ρ k)) q) 0 (size ρ))
@@ -76,7 +76,7 @@ module _ (ρ : Run) (H′ : ℕ) (O : Obeys ρ) (good : Good (ρ .tasks)) (longe
   unfolding opening
   job-exists k h = record-exists σ₀ (opening-jobs ρ H′) good k h
 
-  at-opening : (k : ℕ) → IsRecord σ₀ k → rec σ₀ k ≡ atH ρ (jobOf (rec σ₀ k))
+  pub at-opening : (k : ℕ) → IsRecord σ₀ k → rec σ₀ k ≡ atH ρ (jobOf (rec σ₀ k))
   unfolding opening
   at-opening k h =
       let q = getD (jobs (ρ .tasks) H′) k (0, 0) in

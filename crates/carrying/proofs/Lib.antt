@@ -17,3 +17,7 @@ pub mod MoreJobs
 pub mod Longer
 pub mod Later
 pub mod Walk
+pub mod OpenedAgain
+pub mod TwoOpenings
+pub mod Meet
+pub mod Twice
