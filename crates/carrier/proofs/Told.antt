@@ -2,7 +2,7 @@
 use Prim.Native.Nat.{ℕ, _+_, _-_, _≤_, _<_}
 use mathlib.Core.Path.{_≡_, refl, sym, subst, _∙_, ap}
 use mathlib.Core.List.{List, [], _++_}
-use mathlib.Core.Option.{none, some}
+use mathlib.Core.Option.{Option, none, some}
 use native.Mathlib.Omega.{arith}
 use lib.ListN.{length, replicate, take}
 use lib.Seq.{take-at}
@@ -15,9 +15,6 @@ use Rattle.model.specs.Answers.{Five, refusal}
 use Rattle.model.specs.Calls.{front}
 use Rattle.model.specs.Carry.{Carried, carryRun, carryOf, carry}
 use Rattle.model.proofs.Reading.{length-entries}
-use Rattle.runfile.specs.Judged.{told}
-use Rattle.runfile.specs.declared.judge.Judged.{Judged}
-use Rattle.runfile.specs.declared.judge.Judged.the-variants.{Fine, Ends, SettingCount, SettingRange, TaskCount, TaskRange, TooManyJobs, RecordCount, Trailing}
 use Rattle.carrying.proofs.Gates.{gate-opens, gate-closes}
 use Rattle.carrier.specs.Told.{Carries}
 use Rattle.checker.proofs.Whole.{told-whole, is-setting, is-tasks}
@@ -36,25 +33,17 @@ tells-refusal b H′ output e = tells b H′ output output e (refl, refl)
 
 -- The file's own refusals
 -- -----------------------
-told-none : (j : Judged) → told j ≡ none → j ≡ Fine
-told-none Fine e = refl
-told-none Ends e = absurd (some≢none e)
-told-none SettingCount e = absurd (some≢none e)
-told-none SettingRange e = absurd (some≢none e)
-told-none TaskCount e = absurd (some≢none e)
-told-none (TaskRange i) e = absurd (some≢none e)
-told-none TooManyJobs e = absurd (some≢none e)
-told-none RecordCount e = absurd (some≢none e)
-told-none Trailing e = absurd (some≢none e)
-
 module _ (b : List ℕ) (H′ room : ℕ) where
-  pub carry-fault : (j : Judged) (f : Five) → ¬ (j ≡ Fine) → told j ≡ refusalOf (read b) → ((ν i : ℕ) → told j ≡ some (ν, i) → f ≡ refusal ν i) → carry b H′ room ≡ onlySays f
+  pub carry-refused : (ν i : ℕ) → refusalOf (read b) ≡ some (ν, i) → carry b H′ room ≡ onlySays (refusal ν i)
   unfolding carry
-  carry-fault j f h e g = go (read b) refl
+  carry-refused ν i e = go (read b) refl
     where
-      go : (r : Read) → read b ≡ r → carryOf (read b) H′ room ≡ onlySays f
-      go (refused ν i) q = ap (λ r. carryOf r H′ room) q ∙ ap onlySays (sym (g ν i (e ∙ ap refusalOf q)))
-      go (whole ρ) q = absurd (h (told-none j (e ∙ ap refusalOf q)))
+      go : (r : Read) → read b ≡ r → carryOf (read b) H′ room ≡ onlySays (refusal ν i)
+      go (refused μ j) q =
+          let z : _≡_ {A = Option (ℕ × ℕ)} (some (μ, j)) (some (ν, i)) = sym (ap refusalOf q) ∙ e in
+          let p : _≡_ {A = ℕ × ℕ} (μ, j) (ν, i) = cc in
+          ap (λ r. carryOf r H′ room) q ∙ ap (λ t. onlySays (refusal (t .0) (t .1))) p
+      go (whole ρ) q = absurd (some≢none (sym e ∙ ap refusalOf q))
 
   -- A file that is not refused: 9, 6, and then the rest
   -- ---------------------------------------------------

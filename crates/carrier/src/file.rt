@@ -1,14 +1,12 @@
 // What a carry of a file says, and what it writes.
 use carry::carry_run;
-use checker::refused;
+use lent::tasks_of;
 use model::Answer;
 use model::Setting;
-use runfile::Judged;
-use runfile::judge_file;
 use runfile::read_records;
-use runfile::read_tasks;
 use runfile::record_count;
 use runfile::records_place;
+use runfile::refusal_in;
 use runfile::setting_of;
 use runfile::task_count;
 use runfile::total_jobs;
@@ -43,7 +41,7 @@ fn carry_columns(
 {
     let setting = setting_of(file);
     let n = task_count(file);
-    let tasks = read_tasks(file, n);
+    let tasks = tasks_of(file);
     let at = records_place(n) + 4;
     read_records(file, at, task.len(), task, job, release, start, end, core);
     carry_run(
@@ -92,19 +90,19 @@ fn carry_whole(file: &[u8], horizon: u32, m: u32, output: &mut [u8]) -> Answer
 pub fn carry_file(file: &[u8], horizon: u32, output: &mut [u8]) -> Answer
     ensures { λ r. ⌜ Carries (now (file .entry)) horizon (now (output .entry)) (fiveOf r) (now (output .exit)) ⌝ }
 {
-    let j = judge_file(file);
-    let Judged::Fine = j else {
-        return refused(j);
-    };
+    let refusal = refusal_in(file);
+    if refusal.number != 0 {
+        return Answer::Refused(refusal.number, refusal.task);
+    }
     let setting = setting_of(file);
+    let n = task_count(file);
+    let m = total_jobs(file, n, horizon);
     if horizon < setting.horizon {
         return Answer::Refused(9, 0);
     }
     if Setting::MOST_HORIZON < horizon {
         return Answer::Refused(9, 0);
     }
-    let n = task_count(file);
-    let m = total_jobs(file, n, horizon);
     if 512 < m {
         return Answer::Refused(6, 0);
     }

@@ -1,26 +1,23 @@
 -- A file that is not refused, lent as its columns; and what is told of one that is refused. Assumes nothing.
 use Prim.Native.Nat.{ℕ, _+_, _-_, _≤_}
 use mathlib.Core.Path.{_≡_, refl, sym, subst, _∙_, ap}
-use mathlib.Core.List.{List, [], _∷_, _++_, append-nil, map}
-use mathlib.Core.Logic.{⊎-elim}
+use mathlib.Core.List.{List, _++_, append-nil, map}
 use mathlib.Core.Option.{Option, none, some}
 use native.Mathlib.Nat.{add-zero}
 use native.Mathlib.Omega.{arith}
 use lib.ListN.{length, replicate, take, drop}
-use types.Run.{OneOf}
 use lib.Seq.{take-at, drop-length}
 use Rattle.base.proofs.Find.{some≢none}
 use Rattle.model.specs.declared.setting.Setting.{Setting}
 use Rattle.model.specs.declared.task.Task.{Task}
 use Rattle.model.specs.declared.record.Record.{Record}
 use Rattle.model.specs.Model.{Run, noTask, totalJobs}
-use Rattle.model.specs.File.{Read, refused, whole, read, refusalOf, num, settingAt, taskAt, recordAt, entries, tasksIn, runAt, tasksPlace, recordsPlace, taskSize, recordSize}
-use Rattle.model.specs.Answers.{Five, refusal}
+use Rattle.model.specs.File.{Read, refused, whole, read, refusalOf, num, settingAt, taskAt, recordAt, entries, tasksIn, runAt, tasksPlace, recordsPlace, taskSize, recordSize, decoded}
+use Rattle.model.specs.Answers.{refusal}
 use Rattle.model.specs.Compute.Verdict.{verdict, check, checkOf}
 use Rattle.model.proofs.Reading.{read-is, read-limits, length-entries, column-entries}
-use Rattle.runfile.specs.Judged.{told}
-use Rattle.runfile.specs.declared.judge.Judged.{Judged}
-use Rattle.runfile.specs.declared.judge.Judged.the-variants.{Fine, Ends, SettingCount, SettingRange, TaskCount, TaskRange, TooManyJobs, RecordCount, Trailing}
+use Rattle.held.proofs.Whole.{fine}
+use Rattle.lent.proofs.Plan.{tasks-decoded}
 use Rattle.verdict.specs.Lent.{Lent}
 
 -- what a file that is not refused tells
@@ -35,38 +32,21 @@ pub check-whole : (b : List ℕ) (ρ : Run) → read b ≡ whole ρ → verdict 
 unfolding check
 check-whole b ρ e = sym (ap checkOf e)
 
--- two tellings of one thing are the same refusal
-pub same-refusal : (o : Option (ℕ × ℕ)) (μ j ν i : ℕ) → o ≡ some (μ, j) → o ≡ some (ν, i) → refusal μ j ≡ refusal ν i
-same-refusal o μ j ν i d e =
-    let z : _≡_ {A = Option (ℕ × ℕ)} (some (μ, j)) (some (ν, i)) = sym d ∙ e in
-    let p : _≡_ {A = ℕ × ℕ} (μ, j) (ν, i) = cc in
-    ap (λ t. refusal (t .0) (t .1)) p
-
 pub check-refused : (b : List ℕ) (ν i : ℕ) → refusalOf (read b) ≡ some (ν, i) → refusal ν i ≡ check b
 unfolding check
 check-refused b ν i e = go (read b) refl
   where
     go : (r : Read) → read b ≡ r → refusal ν i ≡ checkOf (read b)
-    go (refused μ j) q = sym (ap checkOf q ∙ same-refusal (refusalOf (read b)) μ j ν i (ap refusalOf q) e)
+    go (refused μ j) q =
+        let z : _≡_ {A = Option (ℕ × ℕ)} (some (μ, j)) (some (ν, i)) = sym (ap refusalOf q) ∙ e in
+        let p : _≡_ {A = ℕ × ℕ} (μ, j) (ν, i) = cc in
+        sym (ap checkOf q ∙ ap (λ t. refusal (t .0) (t .1)) p)
     go (whole ρ) q = absurd (some≢none (sym e ∙ ap refusalOf q))
 
--- none of the keys of the other cases is the first one's
-pub no-key : OneOf (1 ∷ 2 ∷ 3 ∷ 4 ∷ 5 ∷ 6 ∷ 7 ∷ 8 ∷ []) 0 → ⊥
-no-key =
-    ⊎-elim (λ e. omega arith) (⊎-elim (λ e. omega arith) (⊎-elim (λ e. omega arith) (⊎-elim (λ e. omega arith)
-    (⊎-elim (λ e. omega arith) (⊎-elim (λ e. omega arith) (⊎-elim (λ e. omega arith) (λ e. omega arith)))))))
-
--- what is answered for a fault is what the check says
-pub check-fault : (b : List ℕ) (j : Judged) (f : Five) → ¬ (j ≡ Fine) → told j ≡ refusalOf (read b) → ((ν i : ℕ) → told j ≡ some (ν, i) → f ≡ refusal ν i) → f ≡ check b
-check-fault b Fine f h e g = absurd (h refl)
-check-fault b Ends f h e g = g 1 0 refl ∙ check-refused b 1 0 (sym e)
-check-fault b SettingCount f h e g = g 2 0 refl ∙ check-refused b 2 0 (sym e)
-check-fault b SettingRange f h e g = g 3 0 refl ∙ check-refused b 3 0 (sym e)
-check-fault b TaskCount f h e g = g 4 0 refl ∙ check-refused b 4 0 (sym e)
-check-fault b (TaskRange i) f h e g = g 5 i refl ∙ check-refused b 5 i (sym e)
-check-fault b TooManyJobs f h e g = g 6 0 refl ∙ check-refused b 6 0 (sym e)
-check-fault b RecordCount f h e g = g 7 0 refl ∙ check-refused b 7 0 (sym e)
-check-fault b Trailing f h e g = g 8 0 refl ∙ check-refused b 8 0 (sym e)
+-- the tasks that were lent are the file's, with tasks of zeros after them
+pub lent-tasks : (b : List ℕ) (k : ℕ) {τs : List Task} → refusalOf (read b) ≡ none → k ≡ num b tasksPlace → τs ≡ decoded b (replicate 32 noTask) .list
+    → τs ≡ tasksIn b k ++ replicate (32 - k) noTask
+lent-tasks b k known pk e = e ∙ tasks-decoded b (fine b known) ∙ (λ κ. tasksIn b (sym pk κ) ++ replicate (32 - sym pk κ) noTask)
 
 module _ (b : List ℕ) (ρ : Run) (e : read b ≡ whole ρ) where
   abbrev n : ℕ

@@ -1,39 +1,19 @@
 // The five numbers of a file.
+use lent::tasks_of;
 use model::Answer;
-use runfile::Judged;
-use runfile::judge_file;
 use runfile::read_records;
-use runfile::read_tasks;
 use runfile::record_count;
 use runfile::records_place;
+use runfile::refusal_in;
 use runfile::setting_of;
 use runfile::task_count;
 use verdict::judge_run;
 ghost use mathlib.Core.Path.{_≡_};
-ghost use mathlib.Core.Option.{none, some};
-ghost use Prim.Native.Nat.{ℕ};
+ghost use mathlib.Core.Option.{none};
 ghost use lib.ListN.{length};
-ghost use Rattle.model.specs.Answers.{fiveOf, refusal};
+ghost use Rattle.model.specs.Answers.{fiveOf};
 ghost use Rattle.model.specs.Compute.Verdict.{check};
 ghost use Rattle.model.specs.File.{num, read, recordsPlace, refusalOf, tasksPlace};
-ghost use Rattle.runfile.specs.Judged.{told};
-
-// The answer of a file that is refused.
-pub fn refused(j: Judged) -> Answer
-    ensures { λ r. ⌜ ((ν i : ℕ) → told j ≡ some (ν, i) → fiveOf r ≡ refusal ν i) ⌝ }
-{
-    match j {
-        Judged::Fine => Answer::InTime,
-        Judged::Ends => Answer::Refused(1, 0),
-        Judged::SettingCount => Answer::Refused(2, 0),
-        Judged::SettingRange => Answer::Refused(3, 0),
-        Judged::TaskCount => Answer::Refused(4, 0),
-        Judged::TaskRange(i) => Answer::Refused(5, i),
-        Judged::TooManyJobs => Answer::Refused(6, 0),
-        Judged::RecordCount => Answer::Refused(7, 0),
-        Judged::Trailing => Answer::Refused(8, 0),
-    }
-}
 
 // The answer of a file that is not refused, with columns as long as it has records: each number is read once, into them.
 fn check_columns(
@@ -56,7 +36,7 @@ fn check_columns(
 {
     let setting = setting_of(file);
     let n = task_count(file);
-    let tasks = read_tasks(file, n);
+    let tasks = tasks_of(file);
     let at = records_place(n) + 4;
     read_records(file, at, task.len(), task, job, release, start, end, core);
     judge_run(setting, tasks, n, task, job, release, start, end, core)
@@ -89,9 +69,9 @@ fn check_whole(file: &[u8]) -> Answer
 pub fn check_file(file: &[u8]) -> Answer
     ensures { λ r. ⌜ fiveOf r ≡ check (now (file .entry)) ⌝ }
 {
-    let j = judge_file(file);
-    let Judged::Fine = j else {
-        return refused(j);
-    };
+    let refusal = refusal_in(file);
+    if refusal.number != 0 {
+        return Answer::Refused(refusal.number, refusal.task);
+    }
     check_whole(file)
 }

@@ -2,4 +2,3 @@
 mod file;
 
 pub use file::check_file;
-pub use file::refused;

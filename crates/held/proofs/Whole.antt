@@ -1,12 +1,13 @@
 -- A file that is not refused reads as the run that its counts tell. Assumes nothing.
 use Prim.Native.Nat.{ℕ, _+_, _≤_}
 use mathlib.Core.Path.{_≡_, refl, sym, _∙_, ap}
-use mathlib.Core.Bool.{Bool, true, false, true≢false, false≢true}
+use mathlib.Core.Bool.{true, false, true≢false}
 use mathlib.Core.List.{List}
-use mathlib.Core.Option.{Option}
+use mathlib.Core.Option.{none, some}
 use lib.ListN.{length}
 use native.Mathlib.Omega.{arith}
 use Rattle.base.specs.Find.{found}
+use Rattle.base.proofs.Find.{some≢none}
 use Rattle.model.specs.Model.{Run}
 use Rattle.model.specs.File.{Read, refused, whole, refusalOf, num, settingAt, taskAt, recordAt, tasksIn, tasksPlace, recordsPlace, recordPlace, taskSize, recordSize, runAt, read}
 use Rattle.model.proofs.Reading.{length-entries, read-is, read-limits}
@@ -53,20 +54,19 @@ module _ (b : List ℕ) where
   pub few-tasks : Fine (read b) → tasksSaid ≤ 32
   few-tasks e = let t = tasks-counted in let l = read-limits b runSaid (reads-whole e) .task-count in omega arith
 
-  -- where the records begin, and how many there are, given what a judgement tells and whether it is a refusal
-  module _ {o : Option (ℕ × ℕ)} {t : Bool} (j : o ≡ refusalOf (read b)) (q : t ≡ found o) where
-    pub starts-none : t ≡ true → record { records = 0; count = 0 } ≡ startsOf (read b)
-    starts-none e = go (read b) (sym (ap found j) ∙ (sym q ∙ e))
-      where
-        go : (r : Read) → found (refusalOf r) ≡ true → record { records = 0; count = 0 } ≡ startsOf r
-        go (refused ν i) e = refl
-        go (whole ρ) e = absurd (false≢true e)
+  pub fine : refusalOf (read b) ≡ none → Fine (read b)
+  fine e = ap found e
 
-    pub fine : t ≡ false → Fine (read b)
-    fine e = sym (ap found j) ∙ (sym q ∙ e)
+  -- where the records begin, and how many there are: none in a file that is refused
+  pub starts-none : {ν i : ℕ} → refusalOf (read b) ≡ some (ν, i) → record { records = 0; count = 0 } ≡ startsOf (read b)
+  starts-none = go (read b)
+    where
+      go : (r : Read) {ν i : ℕ} → refusalOf r ≡ some (ν, i) → record { records = 0; count = 0 } ≡ startsOf r
+      go (refused ν i) e = refl
+      go (whole ρ) e = absurd (some≢none (sym e))
 
-    pub starts-said : {n i m : ℕ} → t ≡ false → n ≡ tasksSaid → i ≡ recordsPlace n → m ≡ recordsSaid → record { records = i + 4; count = m } ≡ startsOf (read b)
-    starts-said {n} {i} {m} e a p c =
-        let l = tasks-counted in
-        let place : i + 4 ≡ recordPlace runSaid 0 = omega arith in
-        rw (reads-whole (fine e)) (λ κ. record { records = place κ; count = (c ∙ sym records-counted) κ })
+  pub starts-said : {n i m : ℕ} → Fine (read b) → n ≡ tasksSaid → i ≡ recordsPlace n → m ≡ recordsSaid → record { records = i + 4; count = m } ≡ startsOf (read b)
+  starts-said {n} {i} {m} e a p c =
+      let l = tasks-counted in
+      let place : i + 4 ≡ recordPlace runSaid 0 = omega arith in
+      rw (reads-whole e) (λ κ. record { records = place κ; count = (c ∙ sym records-counted) κ })

@@ -1,14 +1,11 @@
 // A reader over a lent file: it holds the file, and gives a record as the bytes of the file that it is.
-use runfile::Judged;
-use runfile::judge_file;
 use runfile::record_count;
 use runfile::records_place;
+use runfile::refusal_in;
 use runfile::task_count;
 ghost use mathlib.Core.Path.{_≡_};
 ghost use lib.ListN.{length};
-ghost use Rattle.base.specs.Find.{found};
-ghost use Rattle.model.specs.File.{read, refusalOf, recordPart};
-ghost use Rattle.runfile.specs.Judged.{told};
+ghost use Rattle.model.specs.File.{read, recordPart};
 ghost use Rattle.held.specs.Held.{startsOf, partIn, IsPart};
 
 // Where the records of a file begin, and how many there are: none in a file that is refused.
@@ -23,28 +20,11 @@ pub struct Reader<'a> {
     pub count: u32,
 }
 
-// Whether a judgement is a refusal.
-fn is_refusal(j: Judged) -> bool
-    ensures { λ r. ⌜ r ≡ found (told j) ⌝ }
-{
-    match j {
-        Judged::Fine => false,
-        Judged::Ends => true,
-        Judged::SettingCount => true,
-        Judged::SettingRange => true,
-        Judged::TaskCount => true,
-        Judged::TaskRange(_) => true,
-        Judged::TooManyJobs => true,
-        Judged::RecordCount => true,
-        Judged::Trailing => true,
-    }
-}
-
 pub fn starts_of(file: &[u8]) -> Starts
     ensures { λ r. ⌜ r ≡ startsOf (read (now (file .entry))) ⌝ }
 {
-    let j = judge_file(file);
-    if is_refusal(j) {
+    let refusal = refusal_in(file);
+    if refusal.number != 0 {
         return Starts {
             records: 0,
             count: 0,

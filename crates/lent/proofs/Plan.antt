@@ -1,44 +1,39 @@
 -- The plan of a decoding, one law for each way. Assumes nothing.
-use Prim.Native.Nat.{ℕ, zero, suc, _+_, _-_, _≤_, _<_}
+use Prim.Native.Nat.{ℕ, _+_, _-_, _≤_, _<_}
 use mathlib.Core.Path.{_≡_, refl, sym, _∙_, ap}
-use mathlib.Core.Bool.{Bool, true, false, false≢true}
+use mathlib.Core.Bool.{Bool, true, false}
 use mathlib.Core.List.{List, _++_}
+use mathlib.Core.Option.{some}
 use native.Mathlib.Omega.{arith}
 use borrow.Author.Tests.{le-leb, lt-leb}
 use lib.Dec.{leb}
 use lib.ListN.{length, drop, replicate, length-replicate, replicate-append-replicate}
 use lib.Seq.{drop-at}
-use Rattle.base.specs.Find.{found}
+use Rattle.base.proofs.Find.{some≢none}
 use Rattle.model.specs.declared.task.Task.{Task}
 use Rattle.model.specs.Model.{noTask}
 use Rattle.model.specs.File.{Read, refused, whole, read, refusalOf, tasksIn, decoded, decodedIf, decodedOf}
-use Rattle.held.proofs.Whole.{Fine, tasksSaid, runSaid, reads-whole, tasks-counted, tasks-said, few-tasks}
-use Rattle.lent.specs.declared.Stored.{Stored}
-use Rattle.lent.specs.Lent.{refusalBy, refusalIn, countIf, countOf, Plans}
+use Rattle.held.proofs.Whole.{Fine, fine, tasksSaid, runSaid, reads-whole, tasks-counted, tasks-said, few-tasks}
+use Rattle.runfile.specs.declared.refusal.Refusal.{Refusal}
+use Rattle.runfile.specs.Said.{refusalSaid}
+use Rattle.runfile.proofs.Numbered.{not-refused, is-refused}
+use Rattle.lent.specs.Lent.{countIf, countOf, Plans}
 
-by-number : (ν i : ℕ) → ¬ (ν ≡ 0) → found (refusalBy ν i) ≡ true
-by-number zero i h = absurd (h refl)
-by-number (suc ν) i h = refl
-
-of-refused : (r : Read) (l : List Task) → found (refusalOf r) ≡ true → (refusalOf r ≡ decodedOf r l .refusal) × (l ≡ decodedOf r l .list) × (0 ≡ countOf r (length l))
+of-refused : (r : Read) (l : List Task) {ν i : ℕ} → refusalOf r ≡ some (ν, i)
+    → (refusalOf r ≡ decodedOf r l .refusal) × (l ≡ decodedOf r l .list) × (0 ≡ countOf r (length l))
 of-refused (refused ν i) l e = (refl, refl, refl)
-of-refused (whole ρ) l e = absurd (false≢true e)
+of-refused (whole ρ) l e = absurd (some≢none (sym e))
 
-module _ (b : List ℕ) (s : Stored) (j : refusalIn s ≡ refusalOf (read b)) where
-  pub fine-said : s .number ≡ 0 → Fine (read b)
-  fine-said e = sym (ap found j) ∙ ap (λ ν. found (refusalBy ν (s .task))) e
+-- what was said of a file that is refused
+pub plan-refused : (b : List ℕ) (l : List Task) (r : Refusal) → r ≡ refusalSaid (refusalOf (read b)) → ¬ (r .number ≡ 0)
+    → Plans b l (record { number = r .number; task = r .task; count = 0 })
+unfolding decoded
+plan-refused b l r said h =
+    let (refusal, list, count) = of-refused (read b) l (is-refused b r said h) in
+    record { refusal = said ∙ ap refusalSaid refusal; stored = list; count = count; few = omega arith; room = omega arith }
 
-  pub plan-refused : (l : List Task) → ¬ (s .number ≡ 0) → s .count ≡ 0 → Plans b l s
-  unfolding decoded
-  plan-refused l h z =
-      let (refusal, list, count) = of-refused (read b) l (sym (ap found j) ∙ by-number (s .number) (s .task) h) in
-      record {
-        refusal = j ∙ refusal;
-        stored = ap (λ n. tasksIn b n ++ drop n l) z ∙ list;
-        count = z ∙ count;
-        few = omega arith;
-        room = omega arith;
-      }
+pub fine-said : (b : List ℕ) (r : Refusal) → r ≡ refusalSaid (refusalOf (read b)) → r .number ≡ 0 → Fine (read b)
+fine-said b r said z = fine b (not-refused b r said z)
 
 -- a file that is not refused, which says that it has n tasks
 module _ (b : List ℕ) (l : List Task) (e : Fine (read b)) {n : ℕ} (c : n ≡ tasksSaid b) where
@@ -57,7 +52,7 @@ module _ (b : List ℕ) (l : List Task) (e : Fine (read b)) {n : ℕ} (c : n ≡
       let m = long in
       let q = lt-leb (length (runSaid b .tasks)) (length l) (omega arith) in
       let d = decodes false q in
-      record { refusal = sym (ap (λ x. x .refusal) d); stored = sym (ap (λ x. x .list) d); count = sym (counts false q); few = omega arith; room = omega arith }
+      record { refusal = sym (ap (λ x. refusalSaid (x .refusal)) d); stored = sym (ap (λ x. x .list) d); count = sym (counts false q); few = omega arith; room = omega arith }
 
   pub plan-stored : n ≤ length l → Plans b l (record { number = 0; task = 0; count = n })
   plan-stored h =
@@ -67,7 +62,7 @@ module _ (b : List ℕ) (l : List Task) (e : Fine (read b)) {n : ℕ} (c : n ≡
       let d = decodes true q in
       let τs : tasksIn b n ≡ runSaid b .tasks = ap (tasksIn b) c ∙ sym (tasks-said b) in
       record {
-        refusal = sym (ap (λ x. x .refusal) d);
+        refusal = sym (ap (λ x. refusalSaid (x .refusal)) d);
         stored = (λ κ. τs κ ++ drop (sym m κ) l) ∙ sym (ap (λ x. x .list) d);
         count = sym (counts true q ∙ m);
         few = omega arith;

@@ -1,19 +1,17 @@
 // Decoded tasks in a list that the caller lends, one entry a task.
 use model::Task;
 use model::Tasks;
-use runfile::Judged;
-use runfile::judge_file;
+use runfile::refusal_in;
 use runfile::task_at;
 use runfile::task_count;
 ghost use mathlib.Core.Path.{_≡_};
 ghost use mathlib.Core.List.{List, _++_};
-ghost use Prim.Native.Nat.{_+_, _*_, _-_, _<_, _≤_};
-ghost use lib.ListN.{length, take, drop, set, replicate};
+ghost use Prim.Native.Nat.{_+_, _*_, _<_, _≤_};
+ghost use lib.ListN.{length, drop, replicate};
 ghost use Rattle.model.specs.declared.task.Task.{Task as TaskValue};
 ghost use Rattle.model.specs.Model.{noTask};
 ghost use Rattle.model.specs.File.{taskAt, tasksIn, tasksPlace, taskSize, decoded};
-ghost use Rattle.runfile.specs.Judged.{told};
-ghost use Rattle.lent.specs.Lent.{refusalIn, Plans, Stores, noTasks, withTask, gathered};
+ghost use Rattle.lent.specs.Lent.{Plans, Stores};
 
 // What a decoding answers: the refusal's number and task, or number 0; and how many tasks it stored.
 pub struct Stored {
@@ -22,67 +20,18 @@ pub struct Stored {
     pub count: usize,
 }
 
-// The refusal of a judgement.
-fn refusal_of(j: Judged) -> Stored
-    ensures { λ r. ⌜ (refusalIn r ≡ told j) × (r .count ≡ 0) ⌝ }
-{
-    match j {
-        Judged::Fine => Stored {
-            number: 0,
-            task: 0,
-            count: 0,
-        },
-        Judged::Ends => Stored {
-            number: 1,
-            task: 0,
-            count: 0,
-        },
-        Judged::SettingCount => Stored {
-            number: 2,
-            task: 0,
-            count: 0,
-        },
-        Judged::SettingRange => Stored {
-            number: 3,
-            task: 0,
-            count: 0,
-        },
-        Judged::TaskCount => Stored {
-            number: 4,
-            task: 0,
-            count: 0,
-        },
-        Judged::TaskRange(i) => Stored {
-            number: 5,
-            task: i,
-            count: 0,
-        },
-        Judged::TooManyJobs => Stored {
-            number: 6,
-            task: 0,
-            count: 0,
-        },
-        Judged::RecordCount => Stored {
-            number: 7,
-            task: 0,
-            count: 0,
-        },
-        Judged::Trailing => Stored {
-            number: 8,
-            task: 0,
-            count: 0,
-        },
-    }
-}
-
 // What is answered, and how many tasks are to be stored in a list with room for so many: none where the file is refused or the list
 // is too short.
 pub fn planned(file: &[u8], room: usize) -> Stored
     ensures { λ r. ⌜ ((list : List TaskValue) → length list ≡ room → Plans (now (file .entry)) list r) ⌝ }
 {
-    let refusal = refusal_of(judge_file(file));
+    let refusal = refusal_in(file);
     if refusal.number != 0 {
-        return refusal;
+        return Stored {
+            number: refusal.number,
+            task: refusal.task,
+            count: 0,
+        };
     }
     let n = task_count(file) as usize;
     if room < n {
@@ -141,36 +90,6 @@ fn no_list() -> [Task; 32]
         jitter: 0,
     };
     [none; 32]
-}
-
-pub fn no_tasks() -> Tasks
-    ensures { λ r. ⌜ r ≡ noTasks ⌝ }
-{
-    let list = no_list();
-    Tasks { list: list }
-}
-
-pub fn with_task(tasks: Tasks, i: usize, task: Task) -> Tasks
-    requires { ⌜ i < 32 ⌝ }
-    ensures { λ r. ⌜ r ≡ withTask tasks i task ⌝ }
-{
-    let mut n = tasks;
-    n.list[i] = task;
-    n
-}
-
-// The first n tasks of a lent list as a value, and tasks of zeros after them.
-pub fn gather(list: &[Task], n: usize) -> Tasks
-    requires { ⌜ (n ≤ 32) × (n ≤ length (now list)) ⌝ }
-    ensures { λ r. ⌜ r ≡ gathered (now (list .entry)) n ⌝ }
-{
-    let mut tasks = no_tasks();
-    let mut i = 0;
-    while i < n {
-        tasks = with_task(tasks, i, list[i]);
-        i += 1;
-    }
-    tasks
 }
 
 // The tasks of a file in a list of this function's own, which is lent to the decoding.

@@ -1,35 +1,10 @@
-// Numbers read once, for the rules to run over: the tasks as a value, and a column for each part of a record.
-use crate::entry::task_at;
+// Numbers read once, for the rules to run over: a column for each part of a record.
 use crate::number::num_at;
-use model::Task;
-use model::Tasks;
 ghost use mathlib.Core.Path.{_≡_};
 ghost use mathlib.Core.List.{_++_};
-ghost use Prim.Native.Nat.{_+_, _-_, _≤_};
-ghost use lib.ListN.{length, drop, replicate};
-ghost use Rattle.model.specs.Model.{noTask};
-ghost use Rattle.model.specs.File.{num, tasksIn, entries, recordSize};
-
-// The first n tasks, and zeros after them.
-pub fn read_tasks(file: &[u8], n: u32) -> Tasks
-    requires { ⌜ n ≤ 32 ⌝ }
-    ensures { λ r. ⌜ r .list ≡ tasksIn (now (file .entry)) n ++ replicate (32 - n) noTask ⌝ }
-{
-    let none = Task {
-        period: 0,
-        least: 0,
-        greatest: 0,
-        offset: 0,
-        jitter: 0,
-    };
-    let mut tasks = Tasks { list: [none; 32] };
-    let mut i = 0;
-    while i < n {
-        tasks.list[i as usize] = task_at(file, i);
-        i += 1;
-    }
-    tasks
-}
+ghost use Prim.Native.Nat.{_+_, _≤_};
+ghost use lib.ListN.{length, drop};
+ghost use Rattle.model.specs.File.{num, entries, recordSize};
 
 // A column of m entries at the front of a slice: entry k is the number that stands k records after a place. The rest keeps its values.
 fn read_column(file: &[u8], at: usize, m: usize, column: &mut [u32])

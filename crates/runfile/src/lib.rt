@@ -3,9 +3,9 @@ mod column;
 mod entry;
 mod judge;
 mod number;
+mod refusal;
 
 pub use column::read_records;
-pub use column::read_tasks;
 pub use entry::record_at;
 pub use entry::record_count;
 pub use entry::records_place;
@@ -16,3 +16,5 @@ pub use judge::Judged;
 pub use judge::judge_file;
 pub use judge::total_jobs;
 pub use number::num_at;
+pub use refusal::Refusal;
+pub use refusal::refusal_in;

@@ -1,36 +1,21 @@
 -- A file that is refused, and one that is not. Assumes nothing.
-use mathlib.Core.Path.{sym, _∙_, ap}
 use borrow.Author.Needs.{needs}
-use Rattle.runfile.specs.Judged.{told}
-use Rattle.checker.proofs.Whole.{no-key, check-fault}
+use Rattle.runfile.proofs.Numbered.{not-refused, is-refused}
+use Rattle.checker.proofs.Whole.{check-refused}
 use Rattle.checker.proofs.file.check_file.Statement.{statement}
 use Rattle.checker.proofs.file.check_file.Tie as tie
 
-judge-file-requires : tie.Need-judge-file-requires
-judge-file-requires c κs = search needs
-
-enum-told : tie.Need-enum-told
-enum-told c = search needs
-
-refused-requires : tie.Need-refused-requires
-refused-requires c κs = search needs
+refusal-in-requires : tie.Need-refusal-in-requires
+refusal-in-requires c κs = search needs
 
 returns : tie.Need-returns
-returns c = check-fault _ (c .before .before .judge-file .result) _ (λ e. no-key (rw e at (c .before .match .keys2))) (c .before .before .judge-file .ensures) (c .refused .ensures)
+returns c = check-refused _ _ _ (is-refused _ _ (c .before .before .refusal-in .ensures) (c .if1 .taken))
 
 check-whole-requires : tie.Need-check-whole-requires
-check-whole-requires c κs = sym (c .before .before .judge-file .ensures) ∙ ap told (c .enum-told .given .1)
+check-whole-requires c κs = not-refused _ _ (c .before .before .refusal-in .ensures) (c .if1 .left)
 
 returns-2 : tie.Need-returns-2
 returns-2 c = search needs
 
 pub check-file-spec : {M : Type 1} → statement M
-check-file-spec =
-    tie.close
-    (tie.spec
-    judge-file-requires
-    enum-told
-    refused-requires
-    returns
-    check-whole-requires
-    returns-2)
+check-file-spec = tie.close (tie.spec refusal-in-requires returns check-whole-requires returns-2)
