@@ -1,25 +1,8 @@
-#!/usr/bin/env python3
-"""Writes the stored cases of crates/refusals: every refusal 1 to 8 at its borders.
+"""Every refusal 1 to 8 at its borders. No expected line is computed: each is written beside its case, from the paper's sentences
+(the comment above each group)."""
+from common import REFUSAL, TOP, numbers, refused
 
-  refusals.py STDIN STDOUT
-
-STDIN gets the cases, each as its length in four bytes and then its bytes; STDOUT what must be printed for them, a line a case.
-No expected line is computed: each is written beside its case, from the paper's sentences (the comment above each group).
-"""
-import struct
-import sys
-
-TOP = 2**32 - 1
 FINE = "fine"
-
-
-def refused(number, task=0):
-    return f"4 {number} {task} 0 0"
-
-
-def numbers(*vs):
-    return b"".join(struct.pack("<I", v) for v in vs)
-
 
 # P, B, W, O, J: a task with one job before H = 20, within all ranges
 PLAIN = (1000, 1, 1, 0, 0)
@@ -41,8 +24,8 @@ def task(period=1000, least=1, greatest=1, offset=0, jitter=0):
 cases = []
 
 
-def case(bytes_, line):
-    cases.append((bytes_, line))
+def case(file, line):
+    cases.append((REFUSAL, 0, 0, file, b"", line.encode() + b"\n"))
 
 
 # "1: the bytes end inside a count or a section": every length at which a whole file can be cut, and the whole file.
@@ -131,11 +114,3 @@ case(file(records=512) + b"\1", refused(8))
 case(file(records=3, record_count=2), refused(8))
 case(file(tasks=(PLAIN,) * 32, records=512), FINE)
 case(file(tasks=(PLAIN,) * 32, records=512) + bytes(3000), refused(8))
-
-with open(sys.argv[1], "wb") as out:
-    for bytes_, line in cases:
-        out.write(struct.pack("<I", len(bytes_)) + bytes_)
-with open(sys.argv[2], "w") as out:
-    for bytes_, line in cases:
-        out.write(line + "\n")
-print(f"{len(cases)} cases, {sum(len(b) for b, _ in cases)} bytes", file=sys.stderr)

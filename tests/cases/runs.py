@@ -1,40 +1,24 @@
-#!/usr/bin/env python3
-"""Writes the stored cases of crates/runs: worked runs, each rule at its borders, lateness at H.
+"""Worked runs, each rule at its borders, lateness at H. No expected line is computed: each is written beside its case, from the
+paper's sentences."""
+from common import C1, C2, C5, C6, C7, C9, C10, C11, CHECK, TOP, UNIT, run
 
-  runs.py STDIN STDOUT
-
-STDIN gets the cases, each as its length in four bytes and then its bytes; STDOUT what must be printed for them, a line a case.
-No expected line is computed: each is written beside its case, from the paper's sentences.
-"""
-import struct
-import sys
-
-S = [(10, 1, 2, 0, 1), (30, 6, 8, 0, 1), (60, 15, 17, 0, 2), (60, 15, 20, 0, 2)]
-C1 = [(0, 0, 1, 15, 17, 2), (0, 1, 10, 17, 19, 1), (1, 0, 1, 17, 25, 2), (2, 0, 0, 0, 17, 1), (3, 0, 0, 0, 15, 2)]
-UNIT = (1, 1, 1, 0, 0)
 cases = []
 
 
-def run(cores, horizon, tasks, records):
-    numbers = [2, cores, horizon, len(tasks)] + [v for t in tasks for v in t] + [len(records)] + [v for r in records for v in r]
-    return struct.pack(f"<{len(numbers)}I", *numbers)
-
-
 def case(line, *file):
-    cases.append((run(*file), line))
+    cases.append((CHECK, 0, 0, run(*file), b"", line.encode() + b"\n"))
 
 
 # the worked runs
-case("1 1 0 0 0", 2, 20, S, C1)
-case("2 1 0 0 0", 2, 10, S, [C1[0], (1, 0, 1, 17, 25, 1)] + C1[3:])
-case("3 8 3 2 2", 2, 10, [(20, 5, 5, 0, 0), (20, 5, 5, 5, 0), (20, 1, 1, 5, 0), (100, 3, 3, 2, 0)],
-     [(0, 0, 0, 0, 5, 1), (1, 0, 5, 5, 10, 1), (2, 0, 5, 5, 6, 2), (3, 0, 2, 6, 9, 2)])
-case("3 4 0 0 0", 2, 20, S, [(0, 0, 1, 15, 18, 2)] + C1[1:])
-case("3 1 4 0 0", 2, 20, S, C1[:4])
-cases.append((b"", "4 1 0 0 0"))
-case("0 0 0 0 0", 1, 512, [UNIT], [(0, j, j, j, j + 1, 1) for j in range(512)])
-case("4 6 0 0 0", 1, 513, [UNIT], [])
-case("0 0 0 0 0", 1, 1, [(1, 1, 1, 1, 0)], [])
+case("1 1 0 0 0", *C1)
+case("2 1 0 0 0", *C2)
+case("3 8 3 2 2", *C5)
+case("3 4 0 0 0", *C6)
+case("3 1 4 0 0", *C7)
+cases.append((CHECK, 0, 0, b"", b"", b"4 1 0 0 0\n"))
+case("0 0 0 0 0", *C9)
+case("4 6 0 0 0", *C10)
+case("0 0 0 0 0", *C11)
 
 # C9 with its last job one tick later: it waits from 511 to 512 while core 1 idles at 511
 case("3 8 511 511 1", 1, 512, [UNIT], [(0, j, j, j, j + 1, 1) for j in range(511)] + [(0, 511, 511, 512, 513, 1)])
@@ -44,7 +28,6 @@ case("3 6 510 511 0", 1, 512, [UNIT], [(0, j, j, j, j + 1, 1) for j in range(510
 # with 2k < 512 begin before H
 case("1 512 0 0 0", 1, 512, [(1, 2, 2, 0, 0)], [(0, k, k, 2 * k, 2 * k + 2, 1) for k in range(512)])
 # numbers at the top of four bytes: a length above W, a core above N, a release too late, no such task
-TOP = 2**32 - 1
 case("3 4 0 0 0", 1, 6, [(10, 2, 3, 5, 1)], [(0, 0, 5, 5, TOP, 1)])
 case("3 5 0 0 0", 1, 6, [(10, 2, 3, 5, 1)], [(0, 0, 5, 5, 7, TOP)])
 case("3 2 0 0 0", 1, 6, [(10, 2, 3, 5, 1)], [(0, 0, TOP, TOP, TOP, 1)])
@@ -77,10 +60,3 @@ two("3 8 0 0 1", 2, 1, (10, 0), (5, 0), (0, 1, 2, 1), (0, 1, 2, 2))
 two("2 1 1 0 0", 1, 2, (10, 0), (2, 1), (0, 0, 2, 1), (1, 2, 4, 1))
 two("1 1 1 0 0", 1, 3, (10, 0), (2, 1), (0, 0, 2, 1), (1, 2, 4, 1))
 two("0 0 0 0 0", 1, 3, (10, 0), (2, 1), (0, 0, 2, 1), (1, 2, 3, 1))
-
-with open(sys.argv[1], "wb") as out:
-    for data, line in cases:
-        out.write(struct.pack("<I", len(data)) + data)
-with open(sys.argv[2], "w") as out:
-    for data, line in cases:
-        out.write(line + "\n")

@@ -1,18 +1,18 @@
--- The line that is written lies in its array. Assumes nothing.
+-- What is written lies in the output or in the line. Assumes nothing.
 use mathlib.Core.Path.{sym}
 use lib.Seq.{length-take-le}
 use borrow.Author.Needs.{needs}
-use Rattle.refusals.proofs.print_judged.Statement.{statement}
-use Rattle.refusals.proofs.print_judged.Tie as tie
+use Rattle.carry_to.proofs.print_carried.Statement.{statement}
+use Rattle.carry_to.proofs.print_carried.Tie as tie
 
-judge-file-requires : tie.Need-judge-file-requires
-judge-file-requires c κs = search needs
+enum-known-told : tie.Need-enum-known-told
+enum-known-told c = search needs
 
-enum-told : tie.Need-enum-told
-enum-told c = search needs
+cast-n : tie.Need-cast-n
+cast-n c = search needs
 
 slice-aggregate-write-all : tie.Need-slice-aggregate-write-all
-slice-aggregate-write-all c = search needs
+slice-aggregate-write-all c = sym (length-take-le _ _ (search needs))
 
 write-all-requires : tie.Need-write-all-requires
 write-all-requires c κs = search needs
@@ -20,8 +20,8 @@ write-all-requires c κs = search needs
 returns : tie.Need-returns
 returns c = search needs
 
-refused-requires : tie.Need-refused-requires
-refused-requires c κs = search needs
+returns-2 : tie.Need-returns-2
+returns-2 c = search needs
 
 slice-aggregate-put-line : tie.Need-slice-aggregate-put-line
 slice-aggregate-put-line c = search needs
@@ -41,23 +41,23 @@ slice-aggregate-write-all-2 c = sym (length-take-le _ _ (search needs))
 write-all-requires-2 : tie.Need-write-all-requires-2
 write-all-requires-2 c κs = search needs
 
-returns-2 : tie.Need-returns-2
-returns-2 c = search needs
+returns-3 : tie.Need-returns-3
+returns-3 c = search needs
 
-pub print-judged-spec : {M : Type 1} → statement M
-print-judged-spec =
+pub print-carried-spec : {M : Type 1} → statement M
+print-carried-spec =
     tie.close
     (tie.spec
-    judge-file-requires
-    enum-told
+    enum-known-told
+    cast-n
     slice-aggregate-write-all
     write-all-requires
     returns
-    refused-requires
+    returns-2
     slice-aggregate-put-line
     numbers-of-requires
     put-line-requires
     array-share-prefix-line
     slice-aggregate-write-all-2
     write-all-requires-2
-    returns-2)
+    returns-3)

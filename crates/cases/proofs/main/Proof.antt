@@ -1,11 +1,11 @@
 -- The cases are counted down. Assumes nothing.
 use Prim.Native.Nat.{_≤_}
 use borrow.Author.Needs.{needs}
-use Rattle.runs.proofs.main.Statement.{statement}
-use Rattle.runs.proofs.main.Tie as tie
+use Rattle.cases.proofs.main.Statement.{statement}
+use Rattle.cases.proofs.main.Tie as tie
 
 abbrev Inv-loop : tie.InvT-loop
-Inv-loop left₀ left = left ≤ 1000
+Inv-loop left₀ left = left ≤ 2000
 
 abbrev μ-loop : tie.MeasureT-loop
 μ-loop left₀ left = left

@@ -1,0 +1,33 @@
+// Carries a run to a longer horizon: reads the horizon in four bytes and then the file, at most its first 16,384 bytes, from
+// standard input, and writes the carried file; where it refuses, the report's line and nothing else.
+use carrier::carry_file;
+use libc::STDIN_FILENO;
+use libc::STDOUT_FILENO;
+use model::Answer;
+use runfile::num_at;
+use text::put_line;
+use wire::numbers_of;
+
+// The file that was written, or the line.
+fn print_carried(told: Answer, output: &[u8]) {
+    if let Answer::Carried(bytes) = told {
+        let n = bytes as usize;
+        if n <= output.len() {
+            io::write_all(STDOUT_FILENO, &output[..n]);
+        }
+        return;
+    }
+    let mut line = [0u8; 64];
+    let k = put_line(&mut line, numbers_of(told));
+    io::write_all(STDOUT_FILENO, &line[..k]);
+}
+
+fn main() {
+    let mut four = [0u8; 4];
+    io::read_full(STDIN_FILENO, &mut four);
+    let mut file = [0u8; 16384];
+    let n = io::read_full(STDIN_FILENO, &mut file);
+    let mut output = [0u8; 12948];
+    let told = carry_file(&file[..n], num_at(&four, 0), &mut output);
+    print_carried(told, &output);
+}
