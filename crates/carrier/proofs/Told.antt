@@ -1,13 +1,15 @@
 -- What the carry of a file says and writes, by what is read of it. Assumes nothing.
 use Prim.Native.Nat.{ℕ, _+_, _-_, _≤_, _<_}
 use mathlib.Core.Path.{_≡_, refl, sym, subst, _∙_, ap}
+use mathlib.Core.Bool.{Bool, true, false, not, _&&_, true≢false}
 use mathlib.Core.List.{List, [], _++_}
 use mathlib.Core.Option.{Option, none, some}
 use native.Mathlib.Omega.{arith}
+use lib.Dec.{leb}
 use lib.ListN.{length, replicate, take}
 use lib.Seq.{take-at}
 use Rattle.base.proofs.Find.{some≢none}
-use Rattle.base.proofs.Test.{says-leb, says-and, says-true, says-false}
+use Rattle.base.proofs.Test.{Says, says-leb, says-and, says-not, says-true, says-false}
 use Rattle.model.specs.declared.task.Task.{Task}
 use Rattle.model.specs.Model.{Run, noTask, mostHorizon, mostJobs, totalJobs}
 use Rattle.model.specs.File.{Read, refused, whole, read, refusalOf, num, settingAt, taskAt, tasksIn, tasksPlace, taskSize}
@@ -18,6 +20,10 @@ use Rattle.model.proofs.Reading.{length-entries}
 use Rattle.carrying.proofs.Gates.{gate-opens, gate-closes}
 use Rattle.carrier.specs.Told.{Carries}
 use Rattle.checker.proofs.Whole.{told-whole, is-setting, is-tasks}
+
+granted : (b : Bool) → not b ≡ false → b ≡ true
+granted true e = refl
+granted false e = absurd (true≢false e)
 
 -- a carry that says so and writes nothing
 abbrev pub onlySays : Five → Carried
@@ -65,6 +71,24 @@ module _ (b : List ℕ) (H′ room : ℕ) where
         let more : mostJobs < totalJobs (ρ .tasks) H′ = subst (λ us. mostJobs < totalJobs us H′) (is-tasks b ρ e) many in
         carry-is ρ e ∙ gate-opens 9 _ _ _ (says-true (says-and (says-leb (ρ .setting .horizon) H′) (says-leb H′ mostHorizon)) (subst (λ u. u .horizon ≤ H′) (is-setting b ρ e) longer, most))
         (gate-closes 6 _ _ (says-false (says-leb (totalJobs (ρ .tasks) H′) mostJobs) (λ g. omega (arith, more))))
+
+-- The tests of the horizon and of the number of jobs, where they fail and where they pass
+-- ---------------------------------------------------------------------------------------
+module _ (from to : ℕ) {b : Bool} (e : b ≡ (leb from to && leb to mostHorizon)) where
+  says : Says b ((from ≤ to) × (to ≤ mostHorizon))
+  says = rw e (says-and (says-leb from to) (says-leb to mostHorizon))
+
+  pub horizon-refused : not b ≡ true → ¬ ((from ≤ to) × (to ≤ mostHorizon))
+  horizon-refused h = says-not says .sound h
+
+  pub horizon-granted : not b ≡ false → (from ≤ to) × (to ≤ mostHorizon)
+  horizon-granted h = says .sound (granted b h)
+
+pub too-many : (m : ℕ) → not (leb m mostJobs) ≡ true → mostJobs < m
+too-many m e = let h = says-not (says-leb m mostJobs) .sound e in omega (arith, h)
+
+pub few-enough : (m : ℕ) → not (leb m mostJobs) ≡ false → m ≤ mostJobs
+few-enough m e = says-leb m mostJobs .sound (granted (leb m mostJobs) e)
 
 -- the jobs of the tasks that were read
 pub total-read : (b : List ℕ) (τs : List Task) (k H′ : ℕ) → τs ≡ tasksIn b k ++ replicate (32 - k) noTask → k ≡ num b tasksPlace

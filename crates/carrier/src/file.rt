@@ -10,9 +10,12 @@ use runfile::refusal_in;
 use runfile::setting_of;
 use runfile::task_count;
 use runfile::total_jobs;
+ghost use mathlib.Core.Bool.{_&&_};
 ghost use mathlib.Core.Path.{_≡_};
+ghost use lib.Dec.{leb};
 ghost use lib.ListN.{length};
 ghost use Rattle.model.specs.Answers.{fiveOf};
+ghost use Rattle.model.specs.Model.{mostHorizon};
 ghost use Rattle.model.specs.File.{num, tasksPlace, recordsPlace};
 ghost use Rattle.carrier.specs.Told.{Carriable, Carries};
 
@@ -86,6 +89,16 @@ fn carry_whole(file: &[u8], horizon: u32, m: u32, output: &mut [u8]) -> Answer
     )
 }
 
+// Whether a run to one horizon may be carried to another: it is not below it, and not above the limit.
+fn may_carry(from: u32, to: u32) -> bool
+    ensures { λ r. ⌜ r ≡ (leb from to && leb to mostHorizon) ⌝ }
+{
+    if to < from {
+        return false;
+    }
+    to <= Setting::MOST_HORIZON
+}
+
 // The carry of any file: its own refusals, 9, 6, and then the rest.
 pub fn carry_file(file: &[u8], horizon: u32, output: &mut [u8]) -> Answer
     ensures { λ r. ⌜ Carries (now (file .entry)) horizon (now (output .entry)) (fiveOf r) (now (output .exit)) ⌝ }
@@ -97,13 +110,12 @@ pub fn carry_file(file: &[u8], horizon: u32, output: &mut [u8]) -> Answer
     let setting = setting_of(file);
     let n = task_count(file);
     let m = total_jobs(file, n, horizon);
-    if horizon < setting.horizon {
+    let longer = may_carry(setting.horizon, horizon);
+    let few = m <= 512;
+    if !longer {
         return Answer::Refused(9, 0);
     }
-    if Setting::MOST_HORIZON < horizon {
-        return Answer::Refused(9, 0);
-    }
-    if 512 < m {
+    if !few {
         return Answer::Refused(6, 0);
     }
     carry_whole(file, horizon, m as u32, output)

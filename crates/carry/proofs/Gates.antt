@@ -1,12 +1,12 @@
 -- What a carry of a run that is lent says and writes: 10, 11, or the file. Assumes nothing.
 use Prim.Native.Nat.{ℕ, _+_, _*_, _≤_, _<_}
 use mathlib.Core.Path.{_≡_, refl, sym, _∙_, ap}
-use mathlib.Core.Bool.{Bool, true, false, not, true≢false}
+use mathlib.Core.Bool.{Bool, true, false, not}
 use mathlib.Core.List.{List, []}
 use native.Mathlib.Omega.{arith}
 use lib.Dec.{leb}
 use lib.ListN.{length, take}
-use Rattle.base.proofs.Test.{says-leb, says-and, says-true, says-false}
+use Rattle.base.proofs.Test.{says-leb, says-and, says-not, says-true, says-false}
 use Rattle.model.specs.declared.setting.Setting.{Setting}
 use Rattle.model.specs.declared.task.Task.{Task}
 use Rattle.model.specs.Model.{Run, mostHorizon, mostJobs, totalJobs}
@@ -17,7 +17,7 @@ use Rattle.model.specs.File.{bytes}
 use Rattle.model.specs.Carry.{Carried, carried, gateCarry, carriedFile, carryRun}
 use Rattle.model.specs.Compute.Verdict.{verdict}
 use Rattle.model.proofs.Demand2.{accepted-exactly-if-obeyed}
-use Rattle.carrying.proofs.Gates.{gate-opens, passes-writes}
+use Rattle.carrying.proofs.Gates.{gate-opens, gate-closes, passes-writes}
 use Rattle.verdict.specs.Lent.{Lent}
 use Rattle.carry.proofs.Columns.{total-lent, size}
 
@@ -25,10 +25,12 @@ not-not : (b : Bool) → not (not b) ≡ b
 not-not true = refl
 not-not false = refl
 
-gate-closes : (ν : ℕ) (t : Bool) (o : Carried) → t ≡ false → gateCarry ν t o ≡ record { told = refusal ν 0; writes = [] }
-unfolding gateCarry
-gate-closes ν true o e = absurd (true≢false e)
-gate-closes ν false o e = refl
+-- the test of the room, where it fails and where it passes
+pub too-short : (size room : ℕ) → not (leb size room) ≡ true → room < size
+too-short size room e = let h = says-not (says-leb size room) .sound e in omega (arith, h)
+
+pub has-room : (size room : ℕ) → not (leb size room) ≡ false → size ≤ room
+has-room size room e = says-leb size room .sound (sym (not-not (leb size room)) ∙ ap not e)
 
 -- what is judged of the run, and whether it is accepted
 module _ (ρ : Run) {f : Five} {b : Bool} (e : f ≡ verdict ρ) (t : b ≡ leb (f .answer) 2) where

@@ -206,11 +206,13 @@ pub fn carry_run(
         × (now (output .exit) ≡ front (carryRun ρ horizon (length (now (output .entry))) .writes) (now (output .entry)))) ⌝ }
 {
     let told = judge_run(setting, tasks, n, task, job, release, start, end, core);
-    if !accepts(told) {
+    let size = 20 + 20 * n as usize + 24 * m as usize;
+    let accepted = accepts(told);
+    let fits = size <= output.len();
+    if !accepted {
         return Answer::Refused(10, 0);
     }
-    let size = 20 + 20 * n as usize + 24 * m as usize;
-    if output.len() < size {
+    if !fits {
         return Answer::Refused(11, 0);
     }
     write_carry(

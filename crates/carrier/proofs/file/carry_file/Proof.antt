@@ -1,5 +1,5 @@
 -- The file's own refusals, 9, 6, and then the rest. Assumes nothing.
-use Prim.Native.Nat.{_≤_}
+use Prim.Native.Nat.{ℕ, _≤_}
 use mathlib.Core.Option.{none}
 use mathlib.Core.Path.{_≡_, _∙_, ap}
 use native.Mathlib.Omega.{arith}
@@ -9,7 +9,7 @@ use Rattle.model.specs.Model.{totalJobs}
 use Rattle.model.specs.File.{num, read, refusalOf, settingAt, tasksIn, tasksPlace}
 use Rattle.runfile.proofs.Numbered.{not-refused, is-refused}
 use Rattle.checker.proofs.Whole.{told-whole, few-tasks}
-use Rattle.carrier.proofs.Told.{tells-refusal, carry-refused, says-9, says-6}
+use Rattle.carrier.proofs.Told.{tells-refusal, carry-refused, says-9, says-6, horizon-refused, horizon-granted, too-many, few-enough}
 use Rattle.carrier.proofs.file.carry_file.Statement.{statement}
 use Rattle.carrier.proofs.file.carry_file.Tie as tie
 
@@ -47,35 +47,47 @@ total-jobs-requires c κs =
     let (ρ, e) = told-whole _ (not-refused _ _ (c .before .before .before .before .refusal-in .ensures) (c .before .before .if1 .left)) in
     omega (arith, few-tasks _ ρ e, c .task-count .ensures)
 
+may-carry-requires : tie.Need-may-carry-requires
+may-carry-requires c κs = search needs
+
+-- what the two tests tell
+abbrev from : tie.After-may-carry → ℕ
+from c = c .before .before .before .setting-of .result .horizon
+
+abbrev to : tie.After-may-carry → ℕ
+to c = c .before .before .before .before .before .before .before .before .before .args .horizon
+
+abbrev jobs : tie.After-may-carry → ℕ
+jobs c = c .before .total-jobs .result
+
 returns-2 : tie.Need-returns-2
 returns-2 c =
-    let (fine, h, m) = known (c .before .before) in
-    tells-refusal _ _ _ (says-9 _ _ _ fine (λ x. omega (arith, x .0, c .if2)))
+    let d = c .before in
+    let (fine, h, m) = known (d .before) in
+    tells-refusal _ _ _ (says-9 _ _ _ fine (λ x. horizon-refused (from d) (to d) (d .may-carry .ensures) (c .if2 .taken) (omega (arith, x .0), x .1)))
 
 returns-3 : tie.Need-returns-3
 returns-3 c =
-    let (fine, h, m) = known (c .before .before .before) in
-    tells-refusal _ _ _ (says-9 _ _ _ fine (λ x. omega (arith, x .1, c .if3)))
-
-returns-4 : tie.Need-returns-4
-returns-4 c =
-    let (fine, h, m) = known (c .before .before .before .before) in
-    tells-refusal _ _ _
-    (says-6 _ _ _ fine (omega (arith, c .before .before .if2)) (omega (arith, c .before .if3)) (omega (arith, c .if4)))
+    let d = c .before .before in
+    let (fine, h, m) = known (d .before) in
+    let (longer, most) = horizon-granted (from d) (to d) (d .may-carry .ensures) (c .before .if2 .left) in
+    tells-refusal _ _ _ (says-6 _ _ _ fine (omega arith) most (omega (arith, too-many (jobs d) (c .if3 .taken))))
 
 cast-carry-whole : tie.Need-cast-carry-whole
-cast-carry-whole c = search needs
+cast-carry-whole c = let f = few-enough (jobs (c .before .before)) (c .if3 .left) in omega arith
 
 carry-whole-requires : tie.Need-carry-whole-requires
 carry-whole-requires c κs =
-    let (fine, h, m) = known (c .before .before .before .before .before) in
-    (fine, omega (arith, c .before .before .before .if2), omega (arith, c .before .before .if3), m, omega (arith, c .before .if4))
+    let d = c .before .before .before in
+    let (fine, h, m) = known (d .before) in
+    let (longer, most) = horizon-granted (from d) (to d) (d .may-carry .ensures) (c .before .before .if2 .left) in
+    (fine, omega arith, most, m, few-enough (jobs d) (c .before .if3 .left))
 
 same-length : tie.Need-same-length
 same-length c = search needs
 
-returns-5 : tie.Need-returns-5
-returns-5 c = search needs
+returns-4 : tie.Need-returns-4
+returns-4 c = search needs
 
 pub carry-file-spec : {M : Type 1} → statement M
 carry-file-spec =
@@ -86,10 +98,10 @@ carry-file-spec =
     setting-of-requires
     task-count-requires
     total-jobs-requires
+    may-carry-requires
     returns-2
     returns-3
-    returns-4
     cast-carry-whole
     carry-whole-requires
     same-length
-    returns-5)
+    returns-4)

@@ -5,7 +5,7 @@ use Rattle.model.specs.Model.{Run}
 use Rattle.model.specs.Rules.{Obeys}
 use Rattle.verdict.specs.Lent.{Lent}
 use Rattle.carry.proofs.Columns.{cores-lent, few-lent}
-use Rattle.carry.proofs.Gates.{rejected, accepted, tells, not-accepted, no-room, writes}
+use Rattle.carry.proofs.Gates.{rejected, accepted, too-short, has-room, tells, not-accepted, no-room, writes}
 use Rattle.carry.proofs.run.carry_run.Statement.{statement}
 use Rattle.carry.proofs.run.carry_run.Tie as tie
 
@@ -46,15 +46,15 @@ obeys c ρ l = accepted ρ (c .before .before .judge-run .ensures ρ l) (c .befo
 returns-2 : tie.Need-returns-2
 returns-2 c ρ l =
     let p = c .before .before .before .before .before .before .before .before .before .before .before .pre in
-    tells ρ _ _ (no-room l _ _ (p .9) (p .10) (p .2) (p .1) (obeys (c .before) ρ l) (c .if2 .taken))
+    tells ρ _ _ (no-room l _ _ (p .9) (p .10) (p .2) (p .1) (obeys (c .before) ρ l) (too-short _ _ (c .if2 .taken)))
 
 write-carry-requires : tie.Need-write-carry-requires
 write-carry-requires c κs =
     let p = c .before .before .before .before .before .before .before .before .before .before .before .before .pre in
-    (p .0, p .1, p .2, p .3, p .4, p .5, p .6, p .7, p .8, p .9, p .10, c .before .if2 .left, (p .11 .0, obeys (c .before .before) _ (p .11 .1), p .11 .1))
+    (p .0, p .1, p .2, p .3, p .4, p .5, p .6, p .7, p .8, p .9, p .10, has-room _ _ (c .before .if2 .left), (p .11 .0, obeys (c .before .before) _ (p .11 .1), p .11 .1))
 
-cast-t25 : tie.Need-cast-t25
-cast-t25 c = search needs
+cast-t26 : tie.Need-cast-t26
+cast-t26 c = search needs
 
 same-length : tie.Need-same-length
 same-length c = search needs
@@ -63,7 +63,7 @@ returns-3 : tie.Need-returns-3
 returns-3 c ρ l =
     let p = c .before .before .before .before .before .before .before .before .before .before .before .before .before .before .before .pre in
     let O = obeys (c .before .before .before .before .before) ρ l in
-    let (t, w) = tells ρ _ _ (writes l _ _ (p .9) (p .10) (p .2) (p .1) O (c .before .before .before .before .if2 .left)) in
+    let (t, w) = tells ρ _ _ (writes l _ _ (p .9) (p .10) (p .2) (p .1) O (has-room _ _ (c .before .before .before .before .if2 .left))) in
     (t, c .before .before .write-carry .ensures ρ O l ∙ w)
 
 pub carry-run-spec : {M : Type 1} → statement M
@@ -71,14 +71,14 @@ carry-run-spec =
     tie.close
     (tie.spec
     judge-run-requires
-    accepts-requires
-    returns
     mul-size
     add-size
     mul-size-2
     add-size-2
+    accepts-requires
+    returns
     returns-2
     write-carry-requires
-    cast-t25
+    cast-t26
     same-length
     returns-3)
