@@ -1,0 +1,197 @@
+/* bench [ROUNDS]: times check and carry of the library beside the independent checker of tests/independent, in one process, and prints
+   a line for each file. Both must say the same of every file, and carry to the same bytes; otherwise nothing more is timed. */
+#include <inttypes.h>
+#include <stdbool.h>
+#include <stdio.h>
+#include <stdlib.h>
+#include <string.h>
+#include <time.h>
+
+#include "../tests/independent/oracle.h"
+#include "files.h"
+
+extern uint32_t octalmure_check(const uint8_t *file, size_t file_length, uint8_t *answer, size_t answer_length);
+extern uint32_t octalmure_carry(const uint8_t *file, size_t file_length, uint32_t horizon, uint8_t *output, size_t output_length,
+                                uint8_t *answer, size_t answer_length);
+
+enum { ANSWER_BYTES = 20, MOST_ROUNDS = 1001, BATCH_NANOSECONDS = 2000000 };
+
+/* ---- one call ---- */
+
+typedef struct {
+    uint32_t (*check)(const uint8_t *, size_t, uint8_t *, size_t);
+    uint32_t (*carry)(const uint8_t *, size_t, uint32_t, uint8_t *, size_t, uint8_t *, size_t);
+    uint8_t answer[ANSWER_BYTES], output[MOST_FILE_BYTES];
+} Side;
+
+typedef struct {
+    const char *name;
+    bool carry;
+    uint32_t horizon, records, cores; /* what it is carried to; the records that are checked, or written */
+    File file;
+} Case;
+
+static void call(Side *side, const Case *c) {
+    if (c->carry) {
+        side->carry(c->file.bytes, c->file.length, c->horizon, side->output, sizeof side->output, side->answer, ANSWER_BYTES);
+    } else {
+        side->check(c->file.bytes, c->file.length, side->answer, ANSWER_BYTES);
+    }
+}
+
+/* Both sides once, on cleared slices. */
+static void expect_agreement(Side *ours, Side *straight, const Case *c) {
+    memset(ours->answer, 0, ANSWER_BYTES), memset(ours->output, 0, MOST_FILE_BYTES);
+    memset(straight->answer, 0, ANSWER_BYTES), memset(straight->output, 0, MOST_FILE_BYTES);
+    call(ours, c), call(straight, c);
+    if (memcmp(ours->answer, straight->answer, ANSWER_BYTES) != 0 || memcmp(ours->output, straight->output, MOST_FILE_BYTES) != 0) {
+        printf("bench: the two do not agree on %s, %" PRIu32 " records, %" PRIu32 " cores\n", c->name, c->records, c->cores);
+        exit(EXIT_FAILURE);
+    }
+}
+
+/* ---- time ---- */
+
+/* The time that this process was given, so that others on the machine are not counted. */
+static double now(void) {
+    struct timespec t;
+    clock_gettime(CLOCK_PROCESS_CPUTIME_ID, &t);
+    return (double)t.tv_sec * 1e9 + (double)t.tv_nsec;
+}
+
+/* Nanoseconds of one call, over so many. */
+static double time_calls(Side *side, const Case *c, uint64_t calls) {
+    double from = now();
+    for (uint64_t i = 0; i < calls; i++) {
+        call(side, c);
+    }
+    return (now() - from) / (double)calls;
+}
+
+/* As many calls as fill a batch; to find out is the warm-up as well. */
+static uint64_t calls_of_batch(Side *side, const Case *c) {
+    uint64_t calls = 1;
+    while (time_calls(side, c, calls) * (double)calls < BATCH_NANOSECONDS / 2) {
+        calls *= 2;
+    }
+    return calls;
+}
+
+static int rising(const void *a, const void *b) {
+    double x = *(const double *)a, y = *(const double *)b;
+    return (x > y) - (x < y);
+}
+
+static double median(double *times, uint32_t count) {
+    qsort(times, count, sizeof *times, rising);
+    return times[count / 2];
+}
+
+/* ---- the table ---- */
+
+typedef struct {
+    Side ours, straight;
+    uint32_t rounds;
+} Bench;
+
+static uint32_t number_at(const uint8_t *bytes) {
+    return (uint32_t)bytes[0] | (uint32_t)bytes[1] << 8 | (uint32_t)bytes[2] << 16 | (uint32_t)bytes[3] << 24;
+}
+
+/* The sides take turns, and the one that begins changes from round to round. */
+static void time_case(Bench *bench, const Case *c) {
+    static double ours[MOST_ROUNDS], straight[MOST_ROUNDS];
+    expect_agreement(&bench->ours, &bench->straight, c);
+    uint64_t n = calls_of_batch(&bench->ours, c), m = calls_of_batch(&bench->straight, c);
+    for (uint32_t round = 0; round < bench->rounds; round++) {
+        if (round % 2 == 0) {
+            ours[round] = time_calls(&bench->ours, c, n);
+        }
+        straight[round] = time_calls(&bench->straight, c, m);
+        if (round % 2 == 1) {
+            ours[round] = time_calls(&bench->ours, c, n);
+        }
+    }
+    double a = median(ours, bench->rounds), b = median(straight, bench->rounds);
+    const uint8_t *answer = bench->ours.answer;
+    printf("%-5s  %-22s %4" PRIu32 " %3" PRIu32 "  %" PRIu32 " %-5" PRIu32 " %10.0f %10.0f %6.2f\n", c->carry ? "carry" : "check", c->name,
+           c->records, c->cores, number_at(answer), number_at(answer + 4), a, b, a / b);
+}
+
+static void time_check(Bench *bench, const char *name, uint32_t records, uint32_t cores, Case *c) {
+    c->name = name, c->carry = false, c->records = records, c->cores = cores;
+    time_case(bench, c);
+}
+
+static void time_carry(Bench *bench, const char *name, uint32_t horizon, uint32_t records, uint32_t cores, Case *c) {
+    c->name = name, c->carry = true, c->horizon = horizon, c->records = records, c->cores = cores;
+    time_case(bench, c);
+}
+
+/* ---- what is timed ---- */
+
+static const uint32_t some_cores[] = {1, 16}, some_records[] = {64, 128, 256, 512};
+
+static void time_permitted(Bench *bench, uint32_t records, uint32_t cores) {
+    static Case c;
+    permitted_file(records, cores, HALF_BUSY, &c.file);
+    time_check(bench, "in time", records, cores, &c);
+    time_carry(bench, "in time, to H", c.file.horizon, records, cores, &c);
+    permitted_file(records, cores, OVERLOADED, &c.file);
+    time_check(bench, "late", records, cores, &c);
+    time_carry(bench, "late, to H", c.file.horizon, records, cores, &c);
+    half_file(records, cores, HALF_BUSY, &c.file);
+    time_carry(bench, "in time, to 2H", 2 * c.file.horizon, records, cores, &c);
+    half_file(records, cores, OVERLOADED, &c.file);
+    time_carry(bench, "late, to 2H", 2 * c.file.horizon, records, cores, &c);
+}
+
+static void time_broken(Bench *bench, uint32_t records, uint32_t cores) {
+    static Case c;
+    char name[40];
+    for (uint32_t rule = 1; rule <= 8; rule++) {
+        snprintf(name, sizeof name, "rule %" PRIu32 ", front", rule);
+        broken_file(records, cores, rule, AT_THE_FRONT, &c.file);
+        time_check(bench, name, records, cores, &c);
+        snprintf(name, sizeof name, "rule %" PRIu32 ", back", rule);
+        broken_file(records, cores, rule, AT_THE_BACK, &c.file);
+        time_check(bench, name, records, cores, &c);
+    }
+    time_carry(bench, "rule 8, back, to H", c.file.horizon, records, cores, &c);
+}
+
+static void time_small(Bench *bench) {
+    static Case c;
+    worked_file(&c.file);
+    time_check(bench, "worked run", 5, 2, &c);
+    time_carry(bench, "worked run, to 30", 30, 6, 2, &c);
+    time_carry(bench, "worked run, to 19", 19, 5, 2, &c);
+    c.file.length--;
+    time_check(bench, "worked run, cut", 5, 2, &c);
+    empty_run_file(&c.file);
+    time_check(bench, "no record", 0, 1, &c);
+    c.file.length = 0;
+    time_check(bench, "no byte", 0, 0, &c);
+}
+
+int main(int argc, char **argv) {
+    static Bench bench = {
+        .ours = {.check = octalmure_check, .carry = octalmure_carry},
+        .straight = {.check = oracle_check, .carry = oracle_carry},
+    };
+    bench.rounds = argc > 1 ? (uint32_t)strtoul(argv[1], NULL, 10) : 15;
+    if (argc > 2 || bench.rounds == 0 || bench.rounds > MOST_ROUNDS) {
+        fprintf(stderr, "usage: bench [ROUNDS]   (1 to %d)\n", MOST_ROUNDS);
+        return 2;
+    }
+    setvbuf(stdout, NULL, _IOLBF, BUFSIZ);
+    printf("%-5s  %-22s %4s %3s  %-7s %10s %10s %6s\n", "call", "file", "rec.", "N", "answer", "ours ns", "straight", "ratio");
+    for (size_t i = 0; i < 2; i++) {
+        for (size_t j = 0; j < 4; j++) {
+            time_permitted(&bench, some_records[j], some_cores[i]);
+        }
+        time_broken(&bench, 512, some_cores[i]);
+    }
+    time_small(&bench);
+    return EXIT_SUCCESS;
+}

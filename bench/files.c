@@ -1,0 +1,166 @@
+#include "files.h"
+
+#include <stdio.h>
+#include <stdlib.h>
+
+#include "../tests/independent/oracle.h"
+#include "../tests/independent/server.h"
+
+/* ---- the bytes ---- */
+
+static void put(File *file, uint32_t number) {
+    for (uint32_t i = 0; i < 4; i++) {
+        file->bytes[file->length] = (uint8_t)(number >> (8 * i));
+        file->length++;
+    }
+}
+
+static void write_file(const Run *run, File *file) {
+    file->length = 0;
+    file->horizon = run->horizon;
+    put(file, 2);
+    put(file, run->cores);
+    put(file, run->horizon);
+    put(file, run->task_count);
+    for (uint32_t i = 0; i < run->task_count; i++) {
+        const Task *t = &run->tasks[i];
+        const uint32_t numbers[] = {t->period, t->least, t->greatest, t->offset, t->jitter};
+        for (uint32_t n = 0; n < 5; n++) {
+            put(file, numbers[n]);
+        }
+    }
+    put(file, run->record_count);
+    for (uint32_t k = 0; k < run->record_count; k++) {
+        const Record *r = &run->records[k];
+        const uint32_t numbers[] = {r->task, r->job, r->release, r->start, r->end, r->core};
+        for (uint32_t n = 0; n < 6; n++) {
+            put(file, numbers[n]);
+        }
+    }
+}
+
+/* ---- permitted runs ---- */
+
+enum { SHORT_PERIOD = 2000, LONG_PERIOD = 6000, MEAN_PERIOD = 3000 };
+
+/* Two kinds of task by turns, one with three times the jobs of the other. Offsets are below the period, and the horizon of the whole
+   run is a multiple of both periods, so that the jobs are exactly as many as are asked for. */
+static void draw_run(uint32_t records, uint32_t cores, Load load, Chance *chance, Run *run) {
+    uint32_t percent = load == HALF_BUSY ? 50 : 300;
+    run->cores = cores;
+    run->task_count = MOST_TASKS;
+    run->horizon = records / MOST_TASKS * MEAN_PERIOD;
+    for (uint32_t i = 0; i < MOST_TASKS; i++) {
+        Task *task = &run->tasks[i];
+        task->period = i % 2 == 0 ? SHORT_PERIOD : LONG_PERIOD;
+        task->greatest = task->period * cores * percent / 100 / MOST_TASKS;
+        task->least = task->greatest * 3 / 4;
+        task->offset = below(chance, task->period);
+        task->jitter = task->period / 8;
+    }
+}
+
+static void permitted_run(uint32_t records, uint32_t cores, Load load, Run *run) {
+    Chance chance = chance_of(7, records * 64 + cores * 2 + load);
+    draw_run(records, cores, load, &chance, run);
+    serve(run, NO_FAULT, &chance);
+}
+
+void permitted_file(uint32_t records, uint32_t cores, Load load, File *file) {
+    Run run;
+    permitted_run(records, cores, load, &run);
+    write_file(&run, file);
+}
+
+void half_file(uint32_t records, uint32_t cores, Load load, File *file) {
+    Run run;
+    Chance chance = chance_of(8, records * 64 + cores * 2 + load);
+    draw_run(records, cores, load, &chance, &run);
+    run.horizon /= 2;
+    serve(&run, NO_FAULT, &chance);
+    write_file(&run, file);
+}
+
+/* ---- runs that break a rule ---- */
+
+static void move_to(Record *record, uint32_t start) {
+    record->end += start - record->start;
+    record->start = start;
+}
+
+/* A job stands where another job of its task does, which leaves rules 2 to 5 as they were. */
+static void overlap(Record *record, const Record *other) {
+    if (record->task == other->task && record->release <= other->start) {
+        record->start = other->start, record->end = other->end, record->core = other->core;
+    }
+}
+
+/* Two jobs of one task take each other's place. */
+static void exchange(Record *a, Record *b) {
+    Record was = *a;
+    if (a->task == b->task && a->start < b->start && b->release <= a->start) {
+        a->start = b->start, a->end = b->end, a->core = b->core;
+        b->start = was.start, b->end = was.end, b->core = was.core;
+    }
+}
+
+/* Tries to break the rule at record a, together with record b where the rule is about two. */
+static void break_at(Run *run, uint32_t rule, Record *a, Record *b) {
+    const Task *task = &run->tasks[a->task];
+    switch (rule) {
+    case 1: a->job++; break;
+    case 2: a->release = (uint32_t)nominal_release(run, a->task, a->job) + task->jitter + 1; break;
+    case 3: a->start = a->release - 1; break;
+    case 4: a->end = a->start + task->greatest + 1; break;
+    case 5: a->core = run->cores + 1; break;
+    case 6: overlap(a, b); break;
+    case 7: exchange(a, b); break;
+    default: move_to(a, a->start + 1); break;
+    }
+}
+
+static uint32_t broken_rule(const File *file) {
+    uint8_t answer[20];
+    return oracle_check(file->bytes, file->length, answer, sizeof answer) == 3 ? answer[4] : 0;
+}
+
+/* Goes through the records, or the pairs, from one side until the independent checker says that just this rule is broken. */
+void broken_file(uint32_t records, uint32_t cores, uint32_t rule, Where where, File *file) {
+    Run run;
+    uint32_t others = rule == 6 || rule == 7 ? records : 1;
+    permitted_run(records, cores, rule == 7 ? OVERLOADED : HALF_BUSY, &run);
+    for (uint32_t i = 0; i < records; i++) {
+        for (uint32_t j = 0; j < others; j++) {
+            uint32_t a = where == AT_THE_FRONT ? i : records - 1 - i, b = where == AT_THE_FRONT ? j : records - 1 - j;
+            Record first = run.records[a], second = run.records[b];
+            break_at(&run, rule, &run.records[a], &run.records[b]);
+            write_file(&run, file);
+            if (broken_rule(file) == rule) {
+                return;
+            }
+            run.records[a] = first;
+            run.records[b] = second;
+        }
+    }
+    fprintf(stderr, "bench: no file of %u records on %u cores that breaks rule %u was found\n", records, cores, rule);
+    exit(EXIT_FAILURE);
+}
+
+/* ---- small files ---- */
+
+void worked_file(File *file) {
+    static const Run run = {
+        .cores = 2,
+        .horizon = 20,
+        .task_count = 4,
+        .record_count = 5,
+        .tasks = {{10, 1, 2, 0, 1}, {30, 6, 8, 0, 1}, {60, 15, 17, 0, 2}, {60, 15, 20, 0, 2}},
+        .records = {{0, 0, 1, 15, 17, 2}, {0, 1, 10, 17, 19, 1}, {1, 0, 1, 17, 25, 2}, {2, 0, 0, 0, 17, 1}, {3, 0, 0, 0, 15, 2}},
+    };
+    write_file(&run, file);
+}
+
+void empty_run_file(File *file) {
+    static const Run run = {.cores = 1, .horizon = 1, .task_count = 1, .tasks = {{1, 1, 1, 1, 0}}};
+    write_file(&run, file);
+}
