@@ -22,6 +22,11 @@ use Rattle.carrying.proofs.Step.{Begun, Inv, here, elsewhere, is-record
 abbrev pub Below : ℕ → Run → Type 0
 Below M σ = (k : ℕ) → IsRecord σ k → (ready σ k ≤ M) × (rec σ k .end ≤ M)
 
+-- No job ends later than 514,000,000. By 2,000,000 all is released that is ever released (a release is below H' + J), and what began
+-- before H has ended (below H + W); from then on each of at most 512 jobs adds at most its W, since one that waits keeps every core busy.
+abbrev pub latestEnd : ℕ
+latestEnd = 514000000
+
 -- there is a core, and no job runs longer than w
 pub record Able (N : ℕ) (τs : List Task) (w : ℕ) : Type 0 where
   pub cores : 1 ≤ N
@@ -72,7 +77,7 @@ module _ (σ₀ : Run) (H w : ℕ) where
     pub by : ℕ
     pub now : t ≤ by
     pub below : Below by σ
-    pub fits : by + m * w < 2 ^ 32
+    pub fits : by + m * w ≤ latestEnd
     pub setting : σ .setting ≡ σ₀ .setting
     pub tasks : σ .tasks ≡ σ₀ .tasks
     pub jobs : jobsRecorded σ ≡ jobsRecorded σ₀
@@ -80,7 +85,7 @@ module _ (σ₀ : Run) (H w : ℕ) where
     pub goes : startAll (waiting σ₀) H σ₀ ≡ startAll m t σ
 
   -- the first start is to come
-  pub going-first : Inv H σ₀ → Able (σ₀ .setting .cores) (σ₀ .tasks) w → (M : ℕ) → H ≤ M → Below M σ₀ → M + waiting σ₀ * w < 2 ^ 32
+  pub going-first : Inv H σ₀ → Able (σ₀ .setting .cores) (σ₀ .tasks) w → (M : ℕ) → H ≤ M → Below M σ₀ → M + waiting σ₀ * w ≤ latestEnd
       → Going (waiting σ₀) H σ₀
   going-first I A M l B f =
       record {

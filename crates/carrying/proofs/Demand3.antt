@@ -18,7 +18,7 @@ use Rattle.model.proofs.RoundTrip.{Fits, fits-nil, fits-cons, length-bytes, rea
 use Rattle.carrying.proofs.Depends.{same-due, existing-jobs}
 use Rattle.carrying.proofs.Recorded.{record-total, record-exists}
 use Rattle.carrying.proofs.Step.{Begun, Inv}
-use Rattle.carrying.proofs.Begin.{Going, going-done}
+use Rattle.carrying.proofs.Begin.{Going, going-done, latestEnd}
 use Rattle.carrying.proofs.AtH.{opening-jobs, place}
 use Rattle.carrying.proofs.Gates.{Carries, carries, carry-passes}
 use Rattle.carrying.proofs.Shown.{one-exactly-if-shown}
@@ -87,15 +87,18 @@ module _ (ρ : Run) (H′ : ℕ) (L : WithinLimits ρ) (O : Obeys ρ) (longer : 
         record-count = omega (arith, carried-total);
       }
 
-  -- Every number of the output is of four bytes: every end is below 2^32, and no other time is later.
+  -- No job of the output ends later than 514,000,000.
+  pub carried-ends : (k : ℕ) → IsRecord (carried ρ H′) k → rec (carried ρ H′) k .end ≤ latestEnd
+  carried-ends k h = omega (arith, D .below k h .1, D .fits)
+
+  -- So every number of the output is of four bytes: no other time is later than an end.
   numbers-fit : (k : ℕ) → IsRecord σ k → Fits (recordNumbers (rec σ k))
   numbers-fit k h =
       let L′ = carried-within in
       let O′ = carried-obeys in
       let (r, x) = record-exists σ carried-jobs (good-tasks σ L′) k h in
       let p : rec σ k .job ≤ rec σ k .job * taskOf σ k .period = le-mul-of-pos-right (rec σ k .job) (good-tasks σ L′ (rec σ k .task) r) in
-      let e = D .below k h .1 in
-      let f = D .fits in
+      let e = carried-ends k h in
       let s = O′ rule3 k h in
       let l = O′ rule4 k h .0 in
       fits-cons (omega (arith, L′ .task-count))
