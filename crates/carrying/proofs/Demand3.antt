@@ -52,7 +52,7 @@ module _ (ρ : Run) (H′ : ℕ) (L : WithinLimits ρ) (O : Obeys ρ) (longer : 
   unfolding opening
   carried-tasks = D .tasks
 
-  carried-jobs : Jobs σ
+  pub carried-jobs : Jobs (carried ρ H′)
   unfolding opening
   carried-jobs =
       D .jobs

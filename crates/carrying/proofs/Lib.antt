@@ -11,6 +11,8 @@ pub mod Carried
 pub mod Shown
 pub mod Gates
 pub mod Demand3
+pub mod RecordBytes
+pub mod Pair
 pub mod Columns
 pub mod Widen
 pub mod MoreJobs
