@@ -1,2 +1,3 @@
 pub mod Columns
 pub mod Gates
+pub mod Once

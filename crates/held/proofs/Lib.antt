@@ -1,3 +1,4 @@
 pub mod Whole
 pub mod Parts
 pub mod Walk
+pub mod Once

@@ -6,8 +6,9 @@ use mathlib.Core.Path.{_≡_}
 use denote.Ref.{RefT}
 use lib.Dec.{leb, ltb}
 use lib.ListN.{length}
-use Rattle.model.specs.File.{Read, refused, whole, recordPlace, recordSize, Part, partOf, emptyPart}
+use Rattle.model.specs.File.{Read, refused, whole, read, recordPlace, recordSize, Part, partOf, emptyPart}
 use Rattle.held.specs.declared.Starts.{Starts}
+use Rattle.held.specs.declared.Reader.{Reader}
 
 -- a file that is refused has no records
 abbrev pub startsOf : Read → Starts
@@ -28,3 +29,11 @@ pub record IsPart (r file : RefT (List ℕ)) (p : Part) : Type 0 where
   pub bytes : r .now ≡ partOf (file .now) p
   pub block : r .ptr .0 ≡ file .ptr .0
   pub place : r .ptr .1 ≡ file .ptr .1 + p .from
+
+-- r is the reader of a file: it holds the file, where its records begin and how many there are
+abbrev pub Opens : RefT (List ℕ) → Reader → Type 0
+Opens file r = (r .file ≡ file) × (_≡_ {A = Starts} (record { records = r .records; count = r .count }) (startsOf (read (file .now))))
+
+-- s is record k of a reader, or the empty front part
+abbrev pub Gives : Reader → ℕ → RefT (List ℕ) → Type 0
+Gives r k s = IsPart s (r .file) (partIn (length (r .file .now)) (r .records) (r .count) k)

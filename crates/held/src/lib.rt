@@ -6,7 +6,7 @@ use runfile::task_count;
 ghost use mathlib.Core.Path.{_≡_};
 ghost use lib.ListN.{length};
 ghost use Rattle.model.specs.File.{read, recordPart};
-ghost use Rattle.held.specs.Held.{startsOf, partIn, IsPart};
+ghost use Rattle.held.specs.Held.{startsOf, partIn, IsPart, Opens, Gives};
 
 // Where the records of a file begin, and how many there are: none in a file that is refused.
 pub struct Starts {
@@ -38,7 +38,7 @@ pub fn starts_of(file: &[u8]) -> Starts
 }
 
 // Record k of n that begin at a place, or the empty front part.
-pub fn part_in<'a>(file: &'a [u8], at: u32, n: u32, k: u32) -> &'a [u8]
+fn part_in<'a>(file: &'a [u8], at: u32, n: u32, k: u32) -> &'a [u8]
     ensures { λ r. ⌜ IsPart r (file .entry) (partIn (length (now (file .entry))) at n k) ⌝ }
 {
     if n <= k {
@@ -54,7 +54,7 @@ pub fn part_in<'a>(file: &'a [u8], at: u32, n: u32, k: u32) -> &'a [u8]
 
 // The reader of a file: the file is judged once.
 pub fn open<'a>(file: &'a [u8]) -> Reader<'a>
-    ensures { λ r. ⌜ (r .file ≡ file .entry) × (record { records = r .records; count = r .count } ≡ startsOf (read (now (file .entry)))) ⌝ }
+    ensures { λ r. ⌜ Opens (file .entry) r ⌝ }
 {
     let s = starts_of(file);
     Reader {
@@ -66,7 +66,7 @@ pub fn open<'a>(file: &'a [u8]) -> Reader<'a>
 
 // Record k, or the empty front part.
 pub fn record<'a>(r: Reader<'a>, k: u32) -> &'a [u8]
-    ensures { λ s. ⌜ IsPart s (r .entry .file) (partIn (length (now (r .entry .file))) (r .entry .records) (r .entry .count) k) ⌝ }
+    ensures { λ s. ⌜ Gives (r .entry) k s ⌝ }
 {
     part_in(r.file, r.records, r.count, k)
 }

@@ -1,3 +1,4 @@
 pub mod Plan
 pub mod Lists
 pub mod Tests
+pub mod Once

@@ -49,7 +49,7 @@ pub fn planned(file: &[u8], room: usize) -> Stored
 }
 
 // Task i of a file.
-pub fn task_of(file: &[u8], i: usize) -> Task
+fn task_of(file: &[u8], i: usize) -> Task
     requires { ⌜ i < 32 ⌝ }
     ensures { λ r. ⌜ r ≡ taskAt (now (file .entry)) (tasksPlace + 4 + taskSize * i) ⌝ }
 {
@@ -57,7 +57,7 @@ pub fn task_of(file: &[u8], i: usize) -> Task
 }
 
 // The first n tasks of the file into the list; the entries past them keep their values.
-pub fn fill_tasks(file: &[u8], list: &mut [Task], n: usize)
+fn fill_tasks(file: &[u8], list: &mut [Task], n: usize)
     requires { ⌜ (n ≤ 32) × (n ≤ length (now list)) ⌝ }
     ensures { λ _. ⌜ now (list .exit) ≡ tasksIn (now (file .entry)) n ++ drop n (now (list .entry)) ⌝ }
 {

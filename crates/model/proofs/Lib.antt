@@ -13,3 +13,4 @@ pub mod Demand2
 pub mod Worked
 pub mod FourReadings
 pub mod Borders
+pub mod Once

@@ -151,7 +151,10 @@ pub fn open_columns(
         × (length (now starts) ≡ length (now whose))
         × (length (now ends) ≡ length (now whose))
         × (length (now cores) ≡ length (now whose))
-        × ((k : ℕ) → k < length (now whose) → arrival (taskIn (tasks .list) (getD (now whose) k 0)) (getD (now which) k 0) < 4294967296) ⌝ }
+        × ((k : ℕ) → k < length (now whose) → arrival (taskIn (tasks .list) (getD (now whose) k 0)) (getD (now which) k 0) < 4294967296)
+        × ((ρ : Run) × (σ : Setting) × (n : ℕ)
+        × Lent ρ σ (tasks .list) n (now task) (now job) (now release) (now start) (now end) (now core)
+        × (σ .horizon ≡ horizon)) ⌝ }
     ensures { λ _. ⌜ ((ρ : Run) (σ : Setting) (n : ℕ)
         → Lent ρ σ (tasks .list) n (now (task .entry)) (now (job .entry)) (now (release .entry)) (now (start .entry)) (now (end .entry)) (now (core .entry))
         → σ .horizon ≡ horizon

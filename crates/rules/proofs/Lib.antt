@@ -3,3 +3,4 @@ pub mod Write
 pub mod Fill
 pub mod Differ
 pub mod Tied
+pub mod Once

@@ -1,3 +1,4 @@
 pub mod Judging
 pub mod Entries
 pub mod Numbered
+pub mod Once

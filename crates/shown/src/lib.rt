@@ -34,7 +34,7 @@ fn is_of(x: Record, task: u32, job: u32) -> bool
 }
 
 // The least record of a job in a file; a refused file has none.
-pub fn least_record(file: &[u8], task: u32, job: u32) -> Found
+fn least_record(file: &[u8], task: u32, job: u32) -> Found
     ensures { λ r. ⌜ seen r ≡ leastOf (read (now (file .entry))) (task, job) ⌝ }
 {
     let starts = starts_of(file);
@@ -72,7 +72,7 @@ fn in_carried(carried: &[u8], task: u32, job: u32) -> Place
 }
 
 // The place from which a job is shown: in the recorded file when it began before H, in the carried file otherwise.
-pub fn place_of(recorded: &[u8], carried: &[u8], task: u32, job: u32) -> Place
+fn place_of(recorded: &[u8], carried: &[u8], task: u32, job: u32) -> Place
     ensures { λ r. ⌜ sourceAt (now (recorded .entry)) (now (carried .entry)) r ≡ shownFrom (now (recorded .entry)) (now (carried .entry)) (task, job) ⌝ }
 {
     let found = least_record(recorded, task, job);

@@ -3,3 +3,4 @@ pub mod Taking
 pub mod Standing
 pub mod Turn
 pub mod Turns
+pub mod Once

@@ -36,7 +36,7 @@ fn better(v: u32, core: &[u32], ready: &[u32], rank: &[u64], best: FoundTwo, k: 
 }
 
 // The job that starts first from v on, and when.
-pub fn choose(v: u32, core: &[u32], ready: &[u32], rank: &[u64]) -> FoundTwo
+pub(crate) fn choose(v: u32, core: &[u32], ready: &[u32], rank: &[u64]) -> FoundTwo
     requires { ⌜ (length (now ready) ≡ length (now core)) × (length (now rank) ≡ length (now core)) × (length (now core) ≤ 512) ⌝ }
     ensures { λ r. ⌜ Choice (length (now (core .entry))) v (now (core .entry)) (now (ready .entry)) (now (rank .entry)) (seenTwo r) ⌝ }
 {

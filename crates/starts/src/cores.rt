@@ -48,7 +48,7 @@ fn least_end(taken: Taken, n: u32) -> u32
 }
 
 // The cores before the first start.
-pub fn free_cores(n: u32, end: &[u32], core: &[u32]) -> Taken
+pub(crate) fn free_cores(n: u32, end: &[u32], core: &[u32]) -> Taken
     requires { ⌜ (1 ≤ n) × (n ≤ 16) × (length (now end) ≡ length (now core)) × ((k : ℕ) → getD (now core) k 0 ≤ 16) ⌝ }
     ensures { λ r. ⌜ Lasts (length (now (core .entry))) (now (core .entry)) (now (end .entry)) (r .ends) × LeastOf (r .ends) (n + 1) (r .least) ⌝ }
 {
@@ -78,7 +78,7 @@ fn try_core(cores: Taken, c: u32, t: u32, end: u32) -> Taken
 }
 
 // The lowest of the cores 1 to n whose last end is no later than t, taken until an end.
-pub fn take_core(cores: Taken, n: u32, t: u32, end: u32) -> Taken
+pub(crate) fn take_core(cores: Taken, n: u32, t: u32, end: u32) -> Taken
     requires { ⌜ (1 ≤ n) × (n ≤ 16) × ((d : ℕ) × (1 ≤ d) × (d ≤ n) × (getD (cores .ends) d 0 ≤ t)) ⌝ }
     ensures { λ r. ⌜ Takes (cores .ends) n t end r ⌝ }
 {

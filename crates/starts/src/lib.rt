@@ -51,7 +51,10 @@ pub fn start_all(
         × (length (now core) ≡ length (now task))
         × (length (now task) ≤ 512)
         × ((k : ℕ) → (getD (now ready) k 0 ≤ 2000000) × (getD (now end) k 0 ≤ 2000000) × (getD (now core) k 0 ≤ 16))
-        × ((i : ℕ) → taskIn (tasks .list) i .greatest ≤ 1000000) ⌝ }
+        × ((i : ℕ) → taskIn (tasks .list) i .greatest ≤ 1000000)
+        × ((σ : Run)
+        × Stands σ n (tasks .list) (now task) (now ready) (now rank) (now start) (now end) (now core)
+        × Going σ horizon mostTime (waiting σ) horizon σ) ⌝ }
     ensures { λ _. ⌜ ((σ : Run)
         → Stands σ n (tasks .list) (now (task .entry)) (now (ready .entry)) (now (rank .entry)) (now (start .entry)) (now (end .entry)) (now (core .entry))
         → Going σ horizon mostTime (waiting σ) horizon σ

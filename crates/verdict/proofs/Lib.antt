@@ -2,3 +2,4 @@ pub mod From
 pub mod Lateness
 pub mod Same
 pub mod Tied
+pub mod Once

@@ -62,7 +62,7 @@ fn first_early(horizon: u32, due: &[u64], start: &[u32], end: &[u32]) -> Found
 }
 
 // Answer 0, 1 or 2.
-pub fn timely(horizon: u32, due: &[u64], start: &[u32], end: &[u32]) -> Answer
+pub(crate) fn timely(horizon: u32, due: &[u64], start: &[u32], end: &[u32]) -> Answer
     requires { ⌜ (length (now due) ≡ length (now end)) × (length (now start) ≡ length (now end)) × (length (now end) ≤ 512) ⌝ }
     ensures { λ r. ⌜ fiveOf r ≡ timelyIn horizon (now (due .entry)) (now (start .entry)) (now (end .entry)) ⌝ }
 {

@@ -128,7 +128,8 @@ pub fn judge_run(
         × (length (now start) ≡ length (now task))
         × (length (now end) ≡ length (now task))
         × (length (now core) ≡ length (now task))
-        × (length (now task) ≤ 512) ⌝ }
+        × (length (now task) ≤ 512)
+        × ((ρ : Run) × Lent ρ setting (tasks .list) n (now task) (now job) (now release) (now start) (now end) (now core)) ⌝ }
     ensures { λ r. ⌜ ((ρ : Run)
         → Lent ρ setting (tasks .list) n (now (task .entry)) (now (job .entry)) (now (release .entry)) (now (start .entry)) (now (end .entry)) (now (core .entry))
         → fiveOf r ≡ verdict ρ) ⌝ }

@@ -15,7 +15,7 @@ start c = c .before .before .before .before .before .before .before .before .bef
 judge-run-requires : tie.Need-judge-run-requires
 judge-run-requires c κs =
     let p = c .before .before .before .before .before .before .before .pre in
-    (cores-lent (p .11 .1) .1, p .0, few-lent (p .11 .1), p .3, p .4, p .5, p .6, p .7, p .8)
+    (cores-lent (p .11 .1) .1, p .0, few-lent (p .11 .1), p .3, p .4, p .5, p .6, p .7, p .8, p .11)
 
 accepts-requires : tie.Need-accepts-requires
 accepts-requires c κs = search needs

@@ -23,15 +23,17 @@ all-started c = c .before .before .before .before .before .before .before .befor
 open-columns-requires : tie.Need-open-columns-requires
 open-columns-requires c κs =
     let p = start c .pre in
-    (whole (p .19 .2), p .1, p .2, p .3, p .4, p .5, p .6, p .8, p .10, p .11, p .12, p .13, arrives (p .19 .2) _ (p .17) (p .18) (p .19 .1) (p .15) (p .16) (p .7))
+    (whole (p .19 .2), p .1, p .2, p .3, p .4, p .5, p .6, p .8, p .10, p .11, p .12, p .13, arrives (p .19 .2) _ (p .17) (p .18) (p .19 .1) (p .15) (p .16) (p .7), (p .19 .0, _, _, p .19 .2, refl))
 
 due-column-requires : tie.Need-due-column-requires
 due-column-requires c κs = let p = start (opened c .before) .pre in (whole (p .19 .2), p .8, p .9)
 
 start-all-requires : tie.Need-start-all-requires
 start-all-requires c κs =
-    let o = opened (due c .before) in
+    let d = due c in
+    let o = opened (d .before) in
     let p = start (o .before) .pre in
+    let e = o .open-columns .ensures (p .19 .0) _ _ (p .19 .2) refl in
     let few = few-jobs (p .19 .2) _ (p .17) (p .18) (p .7) in (
       cores-lent (p .19 .2) .0,
       cores-lent (p .19 .2) .1,
@@ -42,8 +44,9 @@ start-all-requires c κs =
       search needs,
       search needs,
       p .7,
-      bounded (p .19 .2) _ (p .17) (p .18) (p .19 .1) (p .15) (p .16) (p .7) (o .open-columns .ensures (p .19 .0) _ _ (p .19 .2) refl),
+      bounded (p .19 .2) _ (p .17) (p .18) (p .19 .1) (p .15) (p .16) (p .7) e,
       greatest (p .19 .2) _ (p .19 .1) (p .15) (p .16) few,
+      (_, stands (p .19 .2) _ (p .17) (p .18) e (d .due-column .ensures), going (p .19 .2) _ (p .19 .1) (p .15) (p .16) few),
     )
 
 write-run-requires : tie.Need-write-run-requires

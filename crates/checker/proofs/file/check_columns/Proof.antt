@@ -61,6 +61,8 @@ judge-run-requires c κs =
     let s = c .before .before .before .before .before .before .before .before .before .before .before .before .before .before .before .before .before .before .before .before .before .before .before .before .before .before .before .before .before .before .before .before .before .before .before .before in
     let (ρ, e) = run s in
     let (pσ, pτ, pk, pa) = values (c .before .before .before .before .before .before .before .before .before .before .before .before .before .before .before .before .before .before .before .before .before .before .before .before .before) in
+    let (known, l, lj, lr, ls, lf, lc) = s .pre in
+    let (i, j, r, t, f, p) = c .before .before .before .before .before .before .before .before .before .before .before .before .before .before .before .before .before .before .read-records .ensures in
     let m = few s in (
       few-cores _ ρ e _ _ _ _ _ pσ pτ pk pa (s .pre .1),
       omega (arith, few-tasks _ ρ e, pk),
@@ -71,6 +73,7 @@ judge-run-requires c κs =
       search needs,
       search needs,
       search needs,
+      (ρ, lent (now (s .args .file)) ρ e _ _ _ _ _ pσ pτ pk pa l _ _ _ _ _ _ _ _ _ _ _ _ refl lj lr ls lf lc i j r t f p),
     )
 
 same-length : tie.Need-same-length
