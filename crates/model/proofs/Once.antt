@@ -18,14 +18,14 @@ setting-in-range-once κs args _ r r′ exit exit′ p q = p ∙ sym q
 pub task-in-range-once : Once task-in-range.Pre task-in-range.Post (λ r exit. r)
 task-in-range-once κs args _ r r′ exit exit′ p q = p ∙ sym q
 
-pub arrival-once : Once arrival.Pre arrival.Post (λ r exit. r)
-arrival-once κs args _ r r′ exit exit′ p q = p ∙ sym q
+pub task-arrival-once : Once arrival.Pre arrival.Post (λ r exit. r)
+task-arrival-once κs args _ r r′ exit exit′ p q = p ∙ sym q
 
-pub deadline-once : Once deadline.Pre deadline.Post (λ r exit. r)
-deadline-once κs args _ r r′ exit exit′ p q = p ∙ sym q
+pub task-deadline-once : Once deadline.Pre deadline.Post (λ r exit. r)
+task-deadline-once κs args _ r r′ exit exit′ p q = p ∙ sym q
 
-pub jobs-once : Once jobs.Pre jobs.Post (λ r exit. r)
-jobs-once κs args _ r r′ exit exit′ p q = p ∙ sym q
+pub task-jobs-once : Once jobs.Pre jobs.Post (λ r exit. r)
+task-jobs-once κs args _ r r′ exit exit′ p q = p ∙ sym q
 
 -- the answer of which these are the five numbers
 abbrev named : ℕ → Five → Answer

@@ -6,9 +6,9 @@ use Rattle.octalmure.proofs.check.octalmure_check.Reads as octalmure-ch
 use Rattle.octalmure.proofs.carry.octalmure_carry.Reads as octalmure-carry
 
 -- the number returned, and the answer slice
-pub check-once : Once octalmure-check.Pre octalmure-check.Post (λ r exit. r also now (exit .1 .0))
-check-once κs args _ r r′ exit exit′ p q = both (p .0 ∙ sym (q .0)) (p .1 ∙ sym (q .1))
+pub octalmure-check-once : Once octalmure-check.Pre octalmure-check.Post (λ r exit. r also now (exit .1 .0))
+octalmure-check-once κs args _ r r′ exit exit′ p q = both (p .0 ∙ sym (q .0)) (p .1 ∙ sym (q .1))
 
 -- the number returned, the output and the answer slice
-pub carry-once : Once octalmure-carry.Pre octalmure-carry.Post (λ r exit. r also now (exit .1 .1 .0) also now (exit .1 .1 .1 .0))
-carry-once κs args _ r r′ exit exit′ p q = both (p .0 ∙ sym (q .0)) (both (p .1 ∙ sym (q .1)) (p .2 ∙ sym (q .2)))
+pub octalmure-carry-once : Once octalmure-carry.Pre octalmure-carry.Post (λ r exit. r also now (exit .1 .1 .0) also now (exit .1 .1 .1 .0))
+octalmure-carry-once κs args _ r r′ exit exit′ p q = both (p .0 ∙ sym (q .0)) (both (p .1 ∙ sym (q .1)) (p .2 ∙ sym (q .2)))
