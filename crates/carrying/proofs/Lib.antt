@@ -15,6 +15,7 @@ pub mod RecordBytes
 pub mod Pair
 pub mod Columns
 pub mod Widen
+pub mod WidenFile
 pub mod MoreJobs
 pub mod Longer
 pub mod Later

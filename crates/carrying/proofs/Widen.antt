@@ -39,7 +39,7 @@ same-count : {τ σ : Task} → WiderTask τ σ → (H : ℕ) → jobCount σ H 
 unfolding jobCount
 same-count w H = rw (w .period, w .offset)
 
-same-counts : {τs σs : List Task} → Wider τs σs → (H : ℕ) → counts σs H ≡ counts τs H
+pub same-counts : {τs σs : List Task} → Wider τs σs → (H : ℕ) → counts σs H ≡ counts τs H
 same-counts none-left H = refl
 same-counts (wider w v) H = rw (same-count w H, same-counts v H)
 
