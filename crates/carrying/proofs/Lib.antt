@@ -24,3 +24,4 @@ pub mod OpenedAgain
 pub mod TwoOpenings
 pub mod Meet
 pub mod Twice
+pub mod Call
