@@ -1,9 +1,16 @@
 -- The tests of one record say what the rules 2 to 5 say of it. Assumes nothing.
 use Prim.Native.Nat.{ℕ, _+_, _-_, _≤_}
+use mathlib.Core.Path.{_≡_, sym}
+use mathlib.Core.List.{List}
+use lib.ListN.{length, List·getD-eq-default}
 use Rattle.base.proofs.Test.{Says, says-leb, says-and}
 use Rattle.model.specs.declared.task.Task.{Task}
-use Rattle.model.specs.Model.{arrival}
+use Rattle.model.specs.Model.{arrival, task, noTask}
 use Rattle.rules.specs.Columns.{releasedBy, startedBy, lastedBy, coreBy}
+
+-- past the list a task is the task of zeros
+pub task-past : (τs : List Task) (i : ℕ) → length τs ≤ i → noTask ≡ task τs i
+task-past τs i h = sym (List·getD-eq-default τs noTask h)
 
 pub says-released : (τ : Task) (j r : ℕ) → Says (releasedBy τ j r) ((arrival τ j ≤ r) × (r ≤ arrival τ j + τ .jitter))
 unfolding releasedBy

@@ -1,4 +1,5 @@
-// Rules 2 to 5: the least record that does not do as the rule says.
+// Rules 2 to 5: the least record that does not do as the rule says. A loop takes a record's task from the list itself: a call of
+// task_in would copy the list, 640 bytes, for each record.
 use base::Found;
 use model::Task;
 use model::Tasks;
@@ -10,6 +11,15 @@ ghost use Rattle.base.specs.Find.{seen, first};
 ghost use Rattle.model.specs.Model.{task as taskOf};
 ghost use Rattle.rules.specs.Columns.{releasedBy, lastedBy, releasedIn, lastedIn, startedIn, onCore, duesFrom};
 
+// The task of zeros.
+const NO_TASK: Task = Task {
+    period: 0,
+    least: 0,
+    greatest: 0,
+    offset: 0,
+    jitter: 0,
+};
+
 // Task i, or the task of zeros.
 pub fn task_in(tasks: Tasks, i: u32) -> Task
     requires { ⌜ length (tasks .list) ≡ 32 ⌝ }
@@ -18,13 +28,7 @@ pub fn task_in(tasks: Tasks, i: u32) -> Task
     if i < Tasks::MOST {
         return tasks.list[i as usize];
     }
-    Task {
-        period: 0,
-        least: 0,
-        greatest: 0,
-        offset: 0,
-        jitter: 0,
-    }
+    NO_TASK
 }
 
 // Rule 2 of one record.
@@ -65,7 +69,11 @@ pub fn release_place(tasks: Tasks, task: &[u32], job: &[u32], release: &[u32]) -
 {
     let mut k = 0;
     while k < task.len() {
-        let t = task_in(tasks, task[k]);
+        let i = task[k];
+        let mut t = NO_TASK;
+        if i < Tasks::MOST {
+            t = tasks.list[i as usize];
+        }
         if !released(t, job[k], release[k]) {
             return Found::At(k as u32);
         }
@@ -97,7 +105,11 @@ pub fn length_place(tasks: Tasks, task: &[u32], start: &[u32], end: &[u32]) -> F
 {
     let mut k = 0;
     while k < task.len() {
-        let t = task_in(tasks, task[k]);
+        let i = task[k];
+        let mut t = NO_TASK;
+        if i < Tasks::MOST {
+            t = tasks.list[i as usize];
+        }
         if !lasted(t, start[k], end[k]) {
             return Found::At(k as u32);
         }
@@ -131,7 +143,11 @@ pub fn due_column(tasks: Tasks, task: &[u32], job: &[u32], due: &mut [u64])
 {
     let mut k = 0;
     while k < task.len() {
-        let t = task_in(tasks, task[k]);
+        let i = task[k];
+        let mut t = NO_TASK;
+        if i < Tasks::MOST {
+            t = tasks.list[i as usize];
+        }
         due[k] = t.deadline(job[k]);
         k += 1;
     }

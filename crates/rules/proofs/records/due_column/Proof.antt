@@ -1,29 +1,49 @@
 use Prim.Native.Nat.{_≤_, _-_}
+use mathlib.Core.Path.{_≡_, _∙_}
+use mathlib.Core.Logic.{⊎-elim}
 use native.Mathlib.Omega.{arith}
-use lib.ListN.{length}
-use Rattle.rules.specs.Columns.{duesFrom}
+use lib.ListN.{length, getD}
+use Rattle.rules.specs.Columns.{taskIn, duesFrom}
+use Rattle.rules.proofs.Tests.{task-past}
 use Rattle.rules.proofs.Write.{Written, written-none, dues-on, dues-all}
 use borrow.Author.Needs.{needs}
 use Rattle.rules.proofs.records.due_column.Statement.{statement}
 use Rattle.rules.proofs.records.due_column.Tie as tie
 
 abbrev Inv-loop : tie.InvT-loop
-Inv-loop tasks task job due₀ k₀ due k = (k ≤ length task) × Written (duesFrom (tasks .list) task job 0 (length task)) 0 due₀ k due
+Inv-loop task job due₀ tasks k₀ due k = (k ≤ length task) × Written (duesFrom (tasks .list) task job 0 (length task)) 0 due₀ k due
 
 abbrev μ-loop : tie.MeasureT-loop
-μ-loop tasks task job due₀ k₀ due k = length task - k
+μ-loop task job due₀ tasks k₀ due k = length task - k
 
 loop-holds : tie.Need-loop-holds Inv-loop μ-loop
 loop-holds c = search (needs, written-none)
 
-mul-task-in : tie.Need-mul-task-in Inv-loop μ-loop
-mul-task-in c = search needs
+mul-i : tie.Need-mul-i Inv-loop μ-loop
+mul-i c = search needs
 
-shared-slice-read-task-in : tie.Need-shared-slice-read-task-in Inv-loop μ-loop
-shared-slice-read-task-in c = search needs
+shared-slice-read-i : tie.Need-shared-slice-read-i Inv-loop μ-loop
+shared-slice-read-i c = search needs
 
-task-in-requires : tie.Need-task-in-requires Inv-loop μ-loop
-task-in-requires c κs = search needs
+cast-t : tie.Need-cast-t Inv-loop μ-loop
+cast-t c = search needs
+
+mul-t : tie.Need-mul-t Inv-loop μ-loop
+mul-t c = search needs
+
+element-copy-out-t : tie.Need-element-copy-out-t Inv-loop μ-loop
+element-copy-out-t c = search needs
+
+-- the task of this record, by either way
+its-task : (c : tie.Joined1 Inv-loop μ-loop)
+    → let s = c .before .before .before .before .before .before .before in
+    c .if1 .t ≡ taskIn (s .args .t1 .list) (s .args .task .now) (c .before .before .before .loop .k)
+its-task c =
+    let s = c .before .before .before .before .before .before .before in
+    ⊎-elim
+    (λ w. w .2)
+    (λ w. w .1 ∙ task-past (s .args .t1 .list) (getD (s .args .task .now) (c .before .before .before .loop .k) 0) (omega arith))
+    (c .if1 .came)
 
 mul-deadline : tie.Need-mul-deadline Inv-loop μ-loop
 mul-deadline c = search needs
@@ -47,7 +67,7 @@ loop-less : tie.Need-loop-less Inv-loop μ-loop
 loop-less c = search needs
 
 loop-again : tie.Need-loop-again Inv-loop μ-loop
-loop-again c = (omega arith, dues-on _ _ _ _ _ (c .before .before .before .before .before .loop .inv .1) (omega arith) (omega arith) (cc))
+loop-again c = (omega arith, dues-on _ _ _ _ _ (c .before .before .before .before .before .loop .inv .1) (omega arith) (omega arith) (let e = its-task (c .before .before) in cc))
 
 same-length : tie.Need-same-length Inv-loop μ-loop
 same-length c = search needs
@@ -62,9 +82,11 @@ due-column-spec =
     Inv-loop
     μ-loop
     loop-holds
-    mul-task-in
-    shared-slice-read-task-in
-    task-in-requires
+    mul-i
+    shared-slice-read-i
+    cast-t
+    mul-t
+    element-copy-out-t
     mul-deadline
     shared-slice-read-deadline
     deadline-requires

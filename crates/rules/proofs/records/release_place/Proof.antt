@@ -1,30 +1,50 @@
 use native.Mathlib.Omega.{arith}
 use Prim.Native.Nat.{_≤_, _-_}
+use mathlib.Core.Path.{_≡_, _∙_}
+use mathlib.Core.Logic.{⊎-elim}
 use mathlib.Core.Bool.{not}
-use lib.ListN.{length}
+use lib.ListN.{length, getD}
 use Rattle.base.proofs.Loop.{NoneTo, none-yet, none-on, first-hit, first-miss}
-use Rattle.rules.specs.Columns.{releasedIn}
+use Rattle.rules.specs.Columns.{taskIn, releasedIn}
+use Rattle.rules.proofs.Tests.{task-past}
 use borrow.Author.Needs.{needs}
 use Rattle.rules.proofs.records.release_place.Statement.{statement}
 use Rattle.rules.proofs.records.release_place.Tie as tie
 
 abbrev Inv-loop : tie.InvT-loop
-Inv-loop tasks task job release k₀ k = (k ≤ length task) × NoneTo (λ i. not (releasedIn (tasks .list) task job release i)) 0 k
+Inv-loop task job release tasks k₀ k = (k ≤ length task) × NoneTo (λ i. not (releasedIn (tasks .list) task job release i)) 0 k
 
 abbrev μ-loop : tie.MeasureT-loop
-μ-loop tasks task job release k₀ k = length task - k
+μ-loop task job release tasks k₀ k = length task - k
 
 loop-holds : tie.Need-loop-holds Inv-loop μ-loop
 loop-holds c = search (needs, none-yet)
 
-mul-task-in : tie.Need-mul-task-in Inv-loop μ-loop
-mul-task-in c = search needs
+mul-i : tie.Need-mul-i Inv-loop μ-loop
+mul-i c = search needs
 
-shared-slice-read-task-in : tie.Need-shared-slice-read-task-in Inv-loop μ-loop
-shared-slice-read-task-in c = search needs
+shared-slice-read-i : tie.Need-shared-slice-read-i Inv-loop μ-loop
+shared-slice-read-i c = search needs
 
-task-in-requires : tie.Need-task-in-requires Inv-loop μ-loop
-task-in-requires c κs = search needs
+cast-t : tie.Need-cast-t Inv-loop μ-loop
+cast-t c = search needs
+
+mul-t : tie.Need-mul-t Inv-loop μ-loop
+mul-t c = search needs
+
+element-copy-out-t : tie.Need-element-copy-out-t Inv-loop μ-loop
+element-copy-out-t c = search needs
+
+-- the task of this record, by either way
+its-task : (c : tie.Joined1 Inv-loop μ-loop)
+    → let s = c .before .before .before .before .before .before .before in
+    c .if1 .t ≡ taskIn (s .args .t1 .list) (s .args .task .now) (c .before .before .before .loop .k)
+its-task c =
+    let s = c .before .before .before .before .before .before .before in
+    ⊎-elim
+    (λ w. w .2)
+    (λ w. w .1 ∙ task-past (s .args .t1 .list) (getD (s .args .task .now) (c .before .before .before .loop .k) 0) (omega arith))
+    (c .if1 .came)
 
 mul-released : tie.Need-mul-released Inv-loop μ-loop
 mul-released c = search needs
@@ -41,11 +61,11 @@ shared-slice-read-released-2 c = search needs
 released-requires : tie.Need-released-requires Inv-loop μ-loop
 released-requires c κs = search needs
 
-cast-t16 : tie.Need-cast-t16 Inv-loop μ-loop
-cast-t16 c = search needs
+cast-t23 : tie.Need-cast-t23 Inv-loop μ-loop
+cast-t23 c = search needs
 
 returns : tie.Need-returns Inv-loop μ-loop
-returns c = first-hit _ 0 _ (search needs) (search needs) (search needs) (cc)
+returns c = first-hit _ 0 _ (search needs) (search needs) (search needs) (let e = its-task (c .before .before .before .before) in cc)
 
 add-k : tie.Need-add-k Inv-loop μ-loop
 add-k c = search needs
@@ -54,7 +74,7 @@ loop-less : tie.Need-loop-less Inv-loop μ-loop
 loop-less c = search needs
 
 loop-again : tie.Need-loop-again Inv-loop μ-loop
-loop-again c = (search needs, none-on _ (search needs) (cc))
+loop-again c = (search needs, none-on _ (search needs) (let e = its-task (c .before .before .before .before) in cc))
 
 returns-2 : tie.Need-returns-2 Inv-loop μ-loop
 returns-2 c = first-miss _ 0 _ (omega arith) (c .before .loop .inv .1)
@@ -66,15 +86,17 @@ release-place-spec =
     Inv-loop
     μ-loop
     loop-holds
-    mul-task-in
-    shared-slice-read-task-in
-    task-in-requires
+    mul-i
+    shared-slice-read-i
+    cast-t
+    mul-t
+    element-copy-out-t
     mul-released
     shared-slice-read-released
     mul-released-2
     shared-slice-read-released-2
     released-requires
-    cast-t16
+    cast-t23
     returns
     add-k
     loop-less

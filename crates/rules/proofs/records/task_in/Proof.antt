@@ -1,7 +1,5 @@
-use Rattle.model.specs.Model.{noTask}
-use mathlib.Core.Path.{sym}
 use native.Mathlib.Omega.{arith}
-use lib.ListN.{List·getD-eq-default}
+use Rattle.rules.proofs.Tests.{task-past}
 use borrow.Author.Needs.{needs}
 use Rattle.rules.proofs.records.task_in.Statement.{statement}
 use Rattle.rules.proofs.records.task_in.Tie as tie
@@ -16,7 +14,7 @@ returns : tie.Need-returns
 returns c = search needs
 
 returns-2 : tie.Need-returns-2
-returns-2 c = sym (List·getD-eq-default (c .before .args .t1 .list) noTask (omega arith))
+returns-2 c = task-past (c .before .args .t1 .list) _ (omega arith)
 
 pub task-in-spec : {M : Type 1} → statement M
 task-in-spec = tie.close (tie.spec mul-result element-copy-out-result returns returns-2)
