@@ -1,5 +1,5 @@
 -- A file that is not refused, lent as its columns; and what is told of one that is refused. Assumes nothing.
-use Prim.Native.Nat.{ℕ, _+_, _-_, _≤_}
+use Prim.Native.Nat.{ℕ, _+_, _*_, _-_, _≤_}
 use mathlib.Core.Path.{_≡_, refl, sym, subst, _∙_, ap}
 use mathlib.Core.List.{List, _++_, append-nil, map}
 use mathlib.Core.Option.{Option, none, some}
@@ -15,7 +15,7 @@ use Rattle.model.specs.Model.{Run, noTask, totalJobs}
 use Rattle.model.specs.File.{Read, refused, whole, read, refusalOf, num, settingAt, taskAt, recordAt, entries, tasksIn, runAt, tasksPlace, recordsPlace, taskSize, recordSize, decoded}
 use Rattle.model.specs.Answers.{refusal}
 use Rattle.model.specs.Compute.Verdict.{verdict, check, checkOf}
-use Rattle.model.proofs.Reading.{read-is, read-limits, length-entries, column-entries}
+use Rattle.model.proofs.Reading.{read-is, read-limits, read-length, length-entries, column-entries}
 use Rattle.held.proofs.Whole.{fine}
 use Rattle.lent.proofs.Plan.{tasks-decoded}
 use Rattle.verdict.specs.Lent.{Lent}
@@ -80,11 +80,15 @@ module _ (b : List ℕ) (ρ : Run) (e : read b ≡ whole ρ) where
   first-column =
       ap (λ i. entries (num b) recordSize i m) (sym (add-zero at)) ∙ column (λ x. x .task) 0 (λ j. ap (num b) (sym (add-zero j)))
 
+  is-many : m ≡ length (ρ .records)
+  is-many = sym (length-entries (recordAt b) recordSize at m) ∙ ap length is-records
+
   pub few-records : m ≤ 512
-  few-records =
-      let l = length-entries (recordAt b) recordSize at m in
-      let r = ap length is-records in
-      omega (arith, read-limits b ρ e .record-count)
+  few-records = omega (arith, is-many, read-limits b ρ e .record-count)
+
+  -- the file ends where its last record does
+  pub records-end : length b ≡ at + recordSize * m
+  records-end = omega (arith, read-length b ρ e, is-count, is-many)
 
   pub few-tasks : n ≤ 32
   few-tasks = omega (arith, is-count, read-limits b ρ e .task-count)

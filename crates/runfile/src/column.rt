@@ -1,19 +1,20 @@
 // Numbers read once, for the rules to run over: a column for each part of a record.
-use crate::number::num_at;
+use crate::number::word_at;
 ghost use mathlib.Core.Path.{_≡_};
 ghost use mathlib.Core.List.{_++_};
-ghost use Prim.Native.Nat.{_+_, _≤_};
+ghost use Prim.Native.Nat.{_+_, _*_, _≤_};
 ghost use lib.ListN.{length, drop};
 ghost use Rattle.model.specs.File.{num, entries, recordSize};
 
 // A column of m entries at the front of a slice: entry k is the number that stands k records after a place. The rest keeps its values.
+// The last number ends within the file; what stands after it in its record, at most 20 bytes, need not.
 fn read_column(file: &[u8], at: usize, m: usize, column: &mut [u32])
-    requires { ⌜ (at ≤ 1000) × (m ≤ 512) × (m ≤ length (now column)) ⌝ }
+    requires { ⌜ (at ≤ 1000) × (m ≤ 512) × (at + recordSize * m ≤ length (now file) + 20) × (m ≤ length (now column)) ⌝ }
     ensures { λ _. ⌜ now (column .exit) ≡ entries (num (now (file .entry))) recordSize at m ++ drop m (now (column .entry)) ⌝ }
 {
     let mut k = 0;
     while k < m {
-        column[k] = num_at(file, at + 24 * k);
+        column[k] = word_at(file, at + 24 * k);
         k += 1;
     }
 }
@@ -31,6 +32,7 @@ pub fn read_records(
     core: &mut [u32],
 )
     requires { ⌜ (at ≤ 900) × (m ≤ 512)
+        × (at + recordSize * m ≤ length (now file))
         × (m ≤ length (now task))
         × (m ≤ length (now job))
         × (m ≤ length (now release))

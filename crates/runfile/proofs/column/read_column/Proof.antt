@@ -17,14 +17,14 @@ abbrev μ-loop : tie.MeasureT-loop
 loop-holds : tie.Need-loop-holds Inv-loop μ-loop
 loop-holds c = (search needs, search needs, written-none _ _ _ _)
 
-mul-num-at : tie.Need-mul-num-at Inv-loop μ-loop
-mul-num-at c = search needs
+mul-word-at : tie.Need-mul-word-at Inv-loop μ-loop
+mul-word-at c = search needs
 
-add-num-at : tie.Need-add-num-at Inv-loop μ-loop
-add-num-at c = search needs
+add-word-at : tie.Need-add-word-at Inv-loop μ-loop
+add-word-at c = search needs
 
-num-at-requires : tie.Need-num-at-requires Inv-loop μ-loop
-num-at-requires c κs = search needs
+word-at-requires : tie.Need-word-at-requires Inv-loop μ-loop
+word-at-requires c κs = search needs
 
 mul-column : tie.Need-mul-column Inv-loop μ-loop
 mul-column c = search needs
@@ -39,7 +39,7 @@ loop-less : tie.Need-loop-less Inv-loop μ-loop
 loop-less c = search needs
 
 loop-again : tie.Need-loop-again Inv-loop μ-loop
-loop-again c = (search needs, simp length-set (omega arith), written-on _ _ _ _ 0 (c .before .before .loop .inv .2) (c .num-at .ensures) (omega arith))
+loop-again c = (search needs, simp length-set (omega arith), written-on _ _ _ _ 0 (c .before .before .loop .inv .2) (c .word-at .ensures) (omega arith))
 
 same-length : tie.Need-same-length Inv-loop μ-loop
 same-length c = search needs
@@ -54,9 +54,9 @@ read-column-spec =
     Inv-loop
     μ-loop
     loop-holds
-    mul-num-at
-    add-num-at
-    num-at-requires
+    mul-word-at
+    add-word-at
+    word-at-requires
     mul-column
     slice-write-column
     add-k

@@ -8,6 +8,15 @@ use Rattle.runfile.proofs.number.num_at.Tie as tie
 returns : tie.Need-returns
 returns c = let a = c .before .before .args in num-past (now (a .s)) (a .at) (omega arith)
 
+sub-if2 : tie.Need-sub-if2
+sub-if2 c = search needs
+
+word-at-requires : tie.Need-word-at-requires
+word-at-requires c κs = search needs
+
+returns-2 : tie.Need-returns-2
+returns-2 c = search needs
+
 byte-at-requires : tie.Need-byte-at-requires
 byte-at-requires c κs = search needs
 
@@ -29,32 +38,20 @@ add-byte-at-3 c = search needs
 byte-at-requires-4 : tie.Need-byte-at-requires-4
 byte-at-requires-4 c κs = search needs
 
-mul-result : tie.Need-mul-result
-mul-result c = search needs
+low-first-requires : tie.Need-low-first-requires
+low-first-requires c κs = search needs
 
-add-result : tie.Need-add-result
-add-result c = search needs
-
-mul-result-2 : tie.Need-mul-result-2
-mul-result-2 c = search needs
-
-add-result-2 : tie.Need-add-result-2
-add-result-2 c = search needs
-
-mul-result-3 : tie.Need-mul-result-3
-mul-result-3 c = search needs
-
-add-result-3 : tie.Need-add-result-3
-add-result-3 c = search needs
-
-returns-2 : tie.Need-returns-2
-returns-2 c = search needs
+returns-3 : tie.Need-returns-3
+returns-3 c = search needs
 
 pub num-at-spec : {M : Type 1} → statement M
 num-at-spec =
     tie.close
     (tie.spec
     returns
+    sub-if2
+    word-at-requires
+    returns-2
     byte-at-requires
     add-byte-at
     byte-at-requires-2
@@ -62,10 +59,5 @@ num-at-spec =
     byte-at-requires-3
     add-byte-at-3
     byte-at-requires-4
-    mul-result
-    add-result
-    mul-result-2
-    add-result-2
-    mul-result-3
-    add-result-3
-    returns-2)
+    low-first-requires
+    returns-3)
