@@ -1,15 +1,15 @@
 // What a carry of a file says, and what it writes.
 use carry::carry_run;
+use judging::refusal_in;
+use judging::total_jobs;
 use lent::tasks_of;
 use model::Answer;
 use model::Setting;
 use runfile::read_records;
 use runfile::record_count;
 use runfile::records_place;
-use runfile::refusal_in;
 use runfile::setting_of;
 use runfile::task_count;
-use runfile::total_jobs;
 ghost use mathlib.Core.Bool.{_&&_};
 ghost use mathlib.Core.Path.{_≡_};
 ghost use lib.Dec.{leb};

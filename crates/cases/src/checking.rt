@@ -1,8 +1,8 @@
 // What is said of a file.
 use checker::check_file;
+use judging::refusal_in;
 use libc::STDOUT_FILENO;
 use model::Answer;
-use runfile::refusal_in;
 use text::put_line;
 use wire::Numbers;
 use wire::numbers_of;

@@ -1,10 +1,10 @@
 // The five numbers of a file.
+use judging::refusal_in;
 use lent::tasks_of;
 use model::Answer;
 use runfile::read_records;
 use runfile::record_count;
 use runfile::records_place;
-use runfile::refusal_in;
 use runfile::setting_of;
 use runfile::task_count;
 use verdict::judge_run;

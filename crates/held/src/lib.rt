@@ -1,7 +1,7 @@
 // A reader over a lent file: it holds the file, and gives a record as the bytes of the file that it is.
+use judging::refusal_in;
 use runfile::record_count;
 use runfile::records_place;
-use runfile::refusal_in;
 use runfile::task_count;
 ghost use mathlib.Core.Path.{_≡_};
 ghost use lib.ListN.{length};

@@ -6,7 +6,7 @@ use lib.ListN.{replicate, length-replicate}
 use Rattle.base.proofs.Once.{Once, _also_, both}
 use Rattle.model.specs.declared.task.Task.{Task}
 use Rattle.model.specs.Model.{noTask}
-use Rattle.runfile.specs.declared.refusal.Refusal.{Refusal}
+use Rattle.judging.specs.declared.refusal.Refusal.{Refusal}
 use Rattle.lent.specs.declared.Stored.{Stored}
 use Rattle.lent.specs.Lent.{refusalIn, Stores}
 use Rattle.lent.proofs.planned.Reads as planned

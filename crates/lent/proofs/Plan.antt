@@ -14,9 +14,9 @@ use Rattle.model.specs.declared.task.Task.{Task}
 use Rattle.model.specs.Model.{noTask}
 use Rattle.model.specs.File.{Read, refused, whole, read, refusalOf, tasksIn, decoded, decodedIf, decodedOf}
 use Rattle.held.proofs.Whole.{Fine, fine, tasksSaid, runSaid, reads-whole, tasks-counted, tasks-said, few-tasks}
-use Rattle.runfile.specs.declared.refusal.Refusal.{Refusal}
-use Rattle.runfile.specs.Said.{refusalSaid}
-use Rattle.runfile.proofs.Numbered.{not-refused, is-refused}
+use Rattle.judging.specs.declared.refusal.Refusal.{Refusal}
+use Rattle.judging.specs.Said.{refusalSaid}
+use Rattle.judging.proofs.Numbered.{not-refused, is-refused}
 use Rattle.lent.specs.Lent.{countIf, countOf, Plans}
 
 of-refused : (r : Read) (l : List Task) {ν i : ℕ} → refusalOf r ≡ some (ν, i)

@@ -7,8 +7,8 @@ use lib.Dec.{leb}
 use lib.ListN.{length, drop}
 use Rattle.model.specs.declared.task.Task.{Task}
 use Rattle.model.specs.File.{Read, refused, whole, read, tasksIn, decoded}
-use Rattle.runfile.specs.declared.refusal.Refusal.{Refusal}
-use Rattle.runfile.specs.Said.{refusalSaid}
+use Rattle.judging.specs.declared.refusal.Refusal.{Refusal}
+use Rattle.judging.specs.Said.{refusalSaid}
 use Rattle.lent.specs.declared.Stored.{Stored}
 
 -- the refusal that an answer tells

@@ -1,7 +1,7 @@
 // Decoded tasks in a list that the caller lends, one entry a task.
+use judging::refusal_in;
 use model::Task;
 use model::Tasks;
-use runfile::refusal_in;
 use runfile::task_at;
 use runfile::task_count;
 ghost use mathlib.Core.Path.{_≡_};

@@ -1,4 +1,2 @@
-pub mod Judging
 pub mod Entries
-pub mod Numbered
 pub mod Once

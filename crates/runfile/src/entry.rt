@@ -44,7 +44,7 @@ pub fn records_place(n: u32) -> usize
 }
 
 // What stands there.
-pub(crate) fn count_after(file: &[u8], n: u32) -> u32
+pub fn count_after(file: &[u8], n: u32) -> u32
     ensures { λ r. ⌜ r ≡ num (now (file .entry)) (recordsPlace n) ⌝ }
 {
     num_at(file, records_place(n))

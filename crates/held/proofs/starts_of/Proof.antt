@@ -4,7 +4,7 @@ use native.Mathlib.Omega.{arith}
 use borrow.Author.Needs.{needs}
 use denote.Ref.{now}
 use Rattle.model.specs.File.{read}
-use Rattle.runfile.proofs.Numbered.{not-refused, is-refused}
+use Rattle.judging.proofs.Numbered.{not-refused, is-refused}
 use Rattle.held.proofs.Whole.{Fine, few-tasks, fine, starts-none, starts-said, tasksSaid}
 use Rattle.held.proofs.starts_of.Statement.{statement}
 use Rattle.held.proofs.starts_of.Tie as tie

@@ -4,9 +4,9 @@ use mathlib.Core.Path.{_≡_}
 use native.Mathlib.Omega.{arith}
 use Rattle.model.specs.File.{tasksIn}
 use Rattle.model.specs.Model.{totalJobs}
 use Rattle.runfile.proofs.Entries.{total-on}
-use Rattle.runfile.proofs.judge.total_jobs.Statement.{statement}
-use Rattle.runfile.proofs.judge.total_jobs.Tie as tie
+use Rattle.judging.proofs.judge.total_jobs.Statement.{statement}
+use Rattle.judging.proofs.judge.total_jobs.Tie as tie
 
 abbrev Inv-loop : tie.InvT-loop
 Inv-loop file n horizon sum₀ i₀ sum i = (i ≤ n) × (sum ≡ totalJobs (tasksIn file i) horizon) × (sum ≤ 4294967296 * i)

@@ -1,8 +1,8 @@
 use borrow.Author.Needs.{needs}
 use native.Mathlib.Omega.{arith}
-use Rattle.runfile.proofs.Judging.{setting-uncounted, setting-miscounted, setting-cut, setting-out, setting-pass}
-use Rattle.runfile.proofs.judge.judge_file.Statement.{statement}
-use Rattle.runfile.proofs.judge.judge_file.Tie as tie
+use Rattle.judging.proofs.Gates.{setting-uncounted, setting-miscounted, setting-cut, setting-out, setting-pass}
+use Rattle.judging.proofs.judge.judge_file.Statement.{statement}
+use Rattle.judging.proofs.judge.judge_file.Tie as tie
 
 returns : tie.Need-returns
 returns c = setting-uncounted _ (omega arith)

@@ -1,13 +1,13 @@
 // The judgement of a file, from its front: the first fault met.
-use crate::entry::count_after;
-use crate::entry::records_place;
-use crate::entry::setting_of;
-use crate::entry::task_at;
-use crate::entry::task_count;
-use crate::number::num_at;
 use base::Found;
 use model::Setting;
 use model::Task;
+use runfile::count_after;
+use runfile::num_at;
+use runfile::records_place;
+use runfile::setting_of;
+use runfile::task_at;
+use runfile::task_count;
 ghost use mathlib.Core.Path.{_≡_};
 ghost use mathlib.Core.List.{List};
 ghost use Prim.Native.Nat.{_≤_, _*_};
@@ -17,7 +17,7 @@ ghost use Rattle.model.specs.declared.task.Task.{Task as TaskValue};
 ghost use Rattle.model.specs.Model.{totalJobs};
 ghost use Rattle.model.specs.File.{tasksIn, recordsPlace, readTasks, read, refusalOf};
 ghost use Rattle.model.specs.Compute.Limits.{badTask};
-ghost use Rattle.runfile.specs.Judged.{told, readRest};
+ghost use Rattle.judging.specs.Judged.{told, readRest};
 
 // What judging a file finds: that it is fine, or its fault.
 pub enum Judged {

@@ -1,10 +1,10 @@
 -- The paper's number for each fault. Assumes nothing.
 use mathlib.Core.Path.{sym, _∙_, ap}
 use borrow.Author.Needs.{needs}
-use Rattle.runfile.specs.Judged.{told}
-use Rattle.runfile.specs.Said.{refusalSaid}
-use Rattle.runfile.proofs.refusal.refusal_of.Statement.{statement}
-use Rattle.runfile.proofs.refusal.refusal_of.Tie as tie
+use Rattle.judging.specs.Judged.{told}
+use Rattle.judging.specs.Said.{refusalSaid}
+use Rattle.judging.proofs.refusal.refusal_of.Statement.{statement}
+use Rattle.judging.proofs.refusal.refusal_of.Tie as tie
 
 enum-told : tie.Need-enum-told
 enum-told c = search needs

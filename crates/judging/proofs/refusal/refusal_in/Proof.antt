@@ -1,9 +1,9 @@
 -- The judgement, and its number. Assumes nothing.
 use mathlib.Core.Path.{_∙_, ap}
 use borrow.Author.Needs.{needs}
-use Rattle.runfile.specs.Said.{refusalSaid}
-use Rattle.runfile.proofs.refusal.refusal_in.Statement.{statement}
-use Rattle.runfile.proofs.refusal.refusal_in.Tie as tie
+use Rattle.judging.specs.Said.{refusalSaid}
+use Rattle.judging.proofs.refusal.refusal_in.Statement.{statement}
+use Rattle.judging.proofs.refusal.refusal_in.Tie as tie
 
 judge-file-requires : tie.Need-judge-file-requires
 judge-file-requires c κs = search needs

@@ -3,8 +3,8 @@ use crate::judge::Judged;
 use crate::judge::judge_file;
 ghost use mathlib.Core.Path.{_≡_};
 ghost use Rattle.model.specs.File.{read, refusalOf};
-ghost use Rattle.runfile.specs.Judged.{told};
-ghost use Rattle.runfile.specs.Said.{refusalSaid};
+ghost use Rattle.judging.specs.Judged.{told};
+ghost use Rattle.judging.specs.Said.{refusalSaid};
 
 // The number, and the task that it names; number 0 where nothing is refused.
 pub struct Refusal {

@@ -1,8 +1,8 @@
 use borrow.Author.Needs.{needs}
 use native.Mathlib.Omega.{arith}
-use Rattle.runfile.proofs.Judging.{task-out, jobs-many, records-uncounted, records-many, records-cut, records-followed, records-fine}
-use Rattle.runfile.proofs.judge.judge_rest.Statement.{statement}
-use Rattle.runfile.proofs.judge.judge_rest.Tie as tie
+use Rattle.judging.proofs.Gates.{task-out, jobs-many, records-uncounted, records-many, records-cut, records-followed, records-fine}
+use Rattle.judging.proofs.judge.judge_rest.Statement.{statement}
+use Rattle.judging.proofs.judge.judge_rest.Tie as tie
 
 records-place-requires : tie.Need-records-place-requires
 records-place-requires c κs = search needs

@@ -7,8 +7,8 @@ use Rattle.model.specs.declared.setting.Setting.{Setting}
 use Rattle.model.specs.declared.task.Task.{Task}
 use Rattle.model.specs.Model.{mostJobs}
 use Rattle.model.specs.File.{Read, gate, gateTask, readRecords}
-use Rattle.runfile.specs.declared.judge.Judged.{Judged}
-use Rattle.runfile.specs.declared.judge.Judged.the-variants.{Fine, Ends, SettingCount, SettingRange, TaskCount, TaskRange, TooManyJobs, RecordCount, Trailing}
+use Rattle.judging.specs.declared.judge.Judged.{Judged}
+use Rattle.judging.specs.declared.judge.Judged.the-variants.{Fine, Ends, SettingCount, SettingRange, TaskCount, TaskRange, TooManyJobs, RecordCount, Trailing}
 
 -- the paper's number, and the task it names, for each fault
 abbrev pub told : Judged → Option (ℕ × ℕ)

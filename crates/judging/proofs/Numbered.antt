@@ -8,8 +8,8 @@ use native.Mathlib.Omega.{arith}
 use Rattle.model.specs.declared.setting.Setting.{Setting}
 use Rattle.model.specs.declared.task.Task.{Task}
 use Rattle.model.specs.File.{Read, refused, whole, gate, gateTask, readRecords, readTasks, read, refusalOf}
-use Rattle.runfile.specs.declared.refusal.Refusal.{Refusal}
-use Rattle.runfile.specs.Said.{refusalSaid}
+use Rattle.judging.specs.declared.refusal.Refusal.{Refusal}
+use Rattle.judging.specs.Said.{refusalSaid}
 
 abbrev Numbered : Read → Type 0
 Numbered (refused ν i) = 1 ≤ ν

@@ -15,7 +15,7 @@ use Rattle.model.specs.Model.{mostTasks, mostJobs, mostRecords, totalJobs}
 use Rattle.model.specs.File.{Read, gate, gateTask, refusalOf, num, settingAt, tasksIn, tasksPlace, recordsPlace, recordSize, readRecords, readTasks, read}
 use Rattle.model.specs.Compute.Limits.{within, settingInRange, badTask}
 use Rattle.model.proofs.Limits.{says-within}
-use Rattle.runfile.specs.Judged.{readRest}
+use Rattle.judging.specs.Judged.{readRest}
 
 abbrev Refusal : Type 0
 Refusal = Option (ℕ × ℕ)

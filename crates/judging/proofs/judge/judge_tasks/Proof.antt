@@ -1,8 +1,8 @@
 use borrow.Author.Needs.{needs}
 use native.Mathlib.Omega.{arith}
-use Rattle.runfile.proofs.Judging.{tasks-uncounted, tasks-miscounted, tasks-cut, tasks-pass}
-use Rattle.runfile.proofs.judge.judge_tasks.Statement.{statement}
-use Rattle.runfile.proofs.judge.judge_tasks.Tie as tie
+use Rattle.judging.proofs.Gates.{tasks-uncounted, tasks-miscounted, tasks-cut, tasks-pass}
+use Rattle.judging.proofs.judge.judge_tasks.Statement.{statement}
+use Rattle.judging.proofs.judge.judge_tasks.Tie as tie
 
 returns : tie.Need-returns
 returns c = tasks-uncounted _ _ (omega arith)

@@ -1,8 +1,8 @@
 use borrow.Author.Needs.{needs}
 use Prim.Native.Nat.{_≤_, _-_}
 use Rattle.runfile.proofs.Entries.{InTo, in-yet, in-on, bad-here, none-bad}
-use Rattle.runfile.proofs.judge.bad_task.Statement.{statement}
-use Rattle.runfile.proofs.judge.bad_task.Tie as tie
+use Rattle.judging.proofs.judge.bad_task.Statement.{statement}
+use Rattle.judging.proofs.judge.bad_task.Tie as tie
 
 abbrev Inv-loop : tie.InvT-loop
 Inv-loop file n i₀ i = (i ≤ n) × InTo file n i
