@@ -19,7 +19,7 @@ fn low_first(a: u32, b: u32, c: u32, d: u32) -> u32
 }
 
 // The number at a place that has its four bytes: no byte is asked whether it stands before the end.
-pub fn word_at(s: &[u8], at: usize) -> u32
+pub(crate) fn word_at(s: &[u8], at: usize) -> u32
     requires { ⌜ at + 4 ≤ length (now s) ⌝ }
     ensures { λ r. ⌜ r ≡ num (now (s .entry)) at ⌝ }
 {
