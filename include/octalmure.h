@@ -1,0 +1,211 @@
+/* Octalmure: checks a recorded run of non-preemptive earliest-deadline-first tasks, and carries it to a longer horizon.
+ *
+ * For C11 and C++11 and later, on x86-64 Linux. Link with -loctalmure; pkg-config knows it as "octalmure".
+ * The words of this file (run file, record, late, H, the rules) are those of the project's README.
+ *
+ * An accepted run without lateness says nothing about other runs of the same tasks.
+ */
+#ifndef OCTALMURE_H
+#define OCTALMURE_H
+
+#include <stddef.h>
+#include <stdint.h>
+
+#ifdef __cplusplus
+extern "C" {
+#endif
+
+/* ---- sizes and limits ---- */
+
+#define OCTALMURE_ANSWER_BYTES 20        /* the five numbers of an answer */
+#define OCTALMURE_MOST_FILE_BYTES 12948  /* the longest run file that is read through; room enough for every carried run */
+#define OCTALMURE_MOST_CORES 16          /* N is 1 to 16 */
+#define OCTALMURE_MOST_TASKS 32          /* a file has 1 to 32 tasks */
+#define OCTALMURE_MOST_JOBS 512          /* all tasks together have 0 to 512 jobs, and a file as many records */
+#define OCTALMURE_MOST_HORIZON 1000000   /* H is 1 to 1,000,000 ticks */
+#define OCTALMURE_MOST_TICKS 1000000     /* so are P, B and W; O is 0 to 1,000,000; J is below P */
+
+/* ---- what is answered ---- */
+
+/* The number that a call returns, and the first of the five numbers. */
+enum octalmure_answer_number {
+    OCTALMURE_NONE_LATE = 0,     /* accepted, no job late.                           Code 0 */
+    OCTALMURE_LATE_BEFORE_H = 1, /* accepted, some late job begins before H.         Code: late records, all of them.
+                                    Place: the least late record that begins before H */
+    OCTALMURE_LATE_FROM_H = 2,   /* accepted, late jobs exist, none begins before H. Code: late records.
+                                    Place: the least late record */
+    OCTALMURE_BROKEN = 3,        /* a rule is broken.                                Code: an octalmure_rule, the lowest broken.
+                                    Place: as there */
+    OCTALMURE_REFUSED = 4,       /* refused.                                         Code: an octalmure_refusal.
+                                    Place: the task, for OCTALMURE_REFUSAL_TASK_RANGE */
+    OCTALMURE_CARRIED = 5        /* carried.                                         Code: bytes written to the output */
+};
+
+/* The code of OCTALMURE_BROKEN, with its place: the first at which the rule is broken. Records are counted from 0. */
+enum octalmure_rule {
+    OCTALMURE_RULE_JOBS = 1,       /* k: the records and the existing jobs, in order, first differ at number k */
+    OCTALMURE_RULE_RELEASE = 2,    /* record */
+    OCTALMURE_RULE_START = 3,      /* record */
+    OCTALMURE_RULE_LENGTH = 4,     /* record */
+    OCTALMURE_RULE_CORE = 5,       /* record */
+    OCTALMURE_RULE_NO_OVERLAP = 6, /* record a, record b, a < b */
+    OCTALMURE_RULE_ORDER = 7,      /* record a, record b */
+    OCTALMURE_RULE_NO_IDLING = 8   /* record, instant, core */
+};
+
+/* The code of OCTALMURE_REFUSED. A file is judged from the front, and the first fault met is the answer; 9 to 11 come last. */
+enum octalmure_refusal {
+    OCTALMURE_REFUSAL_CUT_SHORT = 1,
+    OCTALMURE_REFUSAL_SETTING_COUNT = 2,
+    OCTALMURE_REFUSAL_SETTING_RANGE = 3,
+    OCTALMURE_REFUSAL_TASK_COUNT = 4,
+    OCTALMURE_REFUSAL_TASK_RANGE = 5,
+    OCTALMURE_REFUSAL_TOO_MANY_JOBS = 6,
+    OCTALMURE_REFUSAL_RECORD_COUNT = 7,
+    OCTALMURE_REFUSAL_TRAILING_BYTES = 8,
+    OCTALMURE_REFUSAL_NEW_HORIZON = 9,
+    OCTALMURE_REFUSAL_BROKEN_RUN = 10,
+    OCTALMURE_REFUSAL_SHORT_OUTPUT = 11
+};
+
+/* The five numbers. Numbers of the place that are not used are 0. */
+struct octalmure_answer {
+    uint32_t answer;   /* an octalmure_answer_number */
+    uint32_t code;
+    uint32_t place[3];
+};
+
+/* ---- the two calls ---- */
+
+/* What every call keeps to:
+ * - It returns the answer number and writes the five numbers into the first 20 bytes of the answer slice. Bytes of the answer slice
+ *   after the 20th never change.
+ * - An answer slice of fewer than 20 bytes is met first of all: the call returns OCTALMURE_REFUSED, and no byte of any slice changes.
+ * - The file never changes.
+ *
+ * All this is proved, of slices. What no proof can see is whether a pointer and a length from C are one, so it is for the caller of the
+ * two plain calls to see to it that
+ * - each pointer leads to as many bytes as its length says, at most PTRDIFF_MAX; no pointer is null, even where the length is 0;
+ * - the answer slice shares no byte with the file or the output, and the output none with the file.
+ * Otherwise what a plain call does is not defined. The guarded calls below look for what can be seen of this.
+ *
+ * Nor does a proof see the stack: a call needs some, and 64 KiB are enough (tested). It uses no heap, no file and no variable that
+ * outlives it, so calls may run side by side, each with its own output and answer.
+ */
+
+/* Checks the run in the file. Returns 0 to 4. */
+uint32_t octalmure_check(const uint8_t *file, size_t file_length, uint8_t *answer, size_t answer_length);
+
+/* Carries the run in the file to the horizon, H', which is at least the file's H.
+ * Carried: returns OCTALMURE_CARRIED, and the front of the output is the carried run as a whole file, of as many bytes as the code
+ *   says: 20, and 20 for each task, and 24 for each job at H'. Bytes of the output after it keep their values.
+ * Refused: returns OCTALMURE_REFUSED, and no byte of the output changes. A run that breaks a rule is refused, without the rule; check
+ *   names it.
+ */
+uint32_t octalmure_carry(const uint8_t *file, size_t file_length, uint32_t horizon, uint8_t *output, size_t output_length,
+                         uint8_t *answer, size_t answer_length);
+
+/* ---- the same calls, guarded ---- */
+
+/* A guarded call returns OCTALMURE_REFUSED and touches no byte if
+ * - a pointer is null and its length is not 0;
+ * - a length is above PTRDIFF_MAX (as a negative number is, once it is a size_t), or leads past the last address;
+ * - two of the slices share a byte. (Each pair has one that is written.)
+ * Otherwise it does what the plain call does. A slice of length 0 shares no byte, and its pointer may be null. That a pointer leads to
+ * memory of its length cannot be seen: that remains for the caller.
+ *
+ * To tell "nothing was judged" from a refusal, set the answer to zeros first: its first number is then not the one that is returned.
+ */
+
+/* 1 if this can be a slice, as far as its two numbers show. */
+static inline int octalmure_is_slice(const uint8_t *pointer, size_t length) {
+    if (pointer == NULL) {
+        return length == 0;
+    }
+    return length <= PTRDIFF_MAX && length <= UINTPTR_MAX - (uintptr_t)pointer;
+}
+
+/* 1 if two slices share no byte. The addresses are compared as numbers: C defines no order between pointers to different things. */
+static inline int octalmure_apart(const uint8_t *a, size_t a_length, const uint8_t *b, size_t b_length) {
+    uintptr_t from_a = (uintptr_t)a, from_b = (uintptr_t)b;
+    return a_length == 0 || b_length == 0 || from_a + a_length <= from_b || from_b + b_length <= from_a;
+}
+
+static inline uint32_t octalmure_guarded_check(const uint8_t *file, size_t file_length, uint8_t *answer, size_t answer_length) {
+    uint8_t nothing = 0; /* stands for a null pointer of length 0: the plain calls take none */
+    if (!octalmure_is_slice(file, file_length) || !octalmure_is_slice(answer, answer_length) ||
+        !octalmure_apart(file, file_length, answer, answer_length)) {
+        return OCTALMURE_REFUSED;
+    }
+    return octalmure_check(file != NULL ? file : &nothing, file_length, answer != NULL ? answer : &nothing, answer_length);
+}
+
+static inline uint32_t octalmure_guarded_carry(const uint8_t *file, size_t file_length, uint32_t horizon, uint8_t *output,
+                                               size_t output_length, uint8_t *answer, size_t answer_length) {
+    uint8_t nothing = 0;
+    if (!octalmure_is_slice(file, file_length) || !octalmure_is_slice(output, output_length) ||
+        !octalmure_is_slice(answer, answer_length) || !octalmure_apart(file, file_length, output, output_length) ||
+        !octalmure_apart(file, file_length, answer, answer_length) ||
+        !octalmure_apart(output, output_length, answer, answer_length)) {
+        return OCTALMURE_REFUSED;
+    }
+    return octalmure_carry(file != NULL ? file : &nothing, file_length, horizon, output != NULL ? output : &nothing, output_length,
+                           answer != NULL ? answer : &nothing, answer_length);
+}
+
+/* ---- reading an answer ---- */
+
+/* The four bytes there as a number, low byte first: as numbers stand in an answer and in a run file. */
+static inline uint32_t octalmure_number(const uint8_t *bytes) {
+    return (uint32_t)bytes[0] | (uint32_t)bytes[1] << 8 | (uint32_t)bytes[2] << 16 | (uint32_t)bytes[3] << 24;
+}
+
+/* The five numbers of OCTALMURE_ANSWER_BYTES bytes. */
+static inline struct octalmure_answer octalmure_decode(const uint8_t *bytes) {
+    struct octalmure_answer decoded;
+    decoded.answer = octalmure_number(bytes);
+    decoded.code = octalmure_number(bytes + 4);
+    decoded.place[0] = octalmure_number(bytes + 8);
+    decoded.place[1] = octalmure_number(bytes + 12);
+    decoded.place[2] = octalmure_number(bytes + 16);
+    return decoded;
+}
+
+/* What a rule says, for a message; "no such rule" for a number that is none. */
+static inline const char *octalmure_rule_text(uint32_t rule) {
+    switch (rule) {
+    case OCTALMURE_RULE_JOBS: return "the records are exactly the existing jobs, in order";
+    case OCTALMURE_RULE_RELEASE: return "jP + O <= r <= jP + O + J";
+    case OCTALMURE_RULE_START: return "r <= s";
+    case OCTALMURE_RULE_LENGTH: return "s <= e and B <= e - s <= W";
+    case OCTALMURE_RULE_CORE: return "a core is 1 to N";
+    case OCTALMURE_RULE_NO_OVERLAP: return "of two records on one core, one ends no later than the other starts";
+    case OCTALMURE_RULE_ORDER: return "if a starts before b, its deadline is no later, or it starts before b is released";
+    case OCTALMURE_RULE_NO_IDLING: return "while a record waits, every core is busy";
+    default: return "no such rule";
+    }
+}
+
+/* When a refusal is given, for a message; "no such refusal" for a number that is none. */
+static inline const char *octalmure_refusal_text(uint32_t refusal) {
+    switch (refusal) {
+    case OCTALMURE_REFUSAL_CUT_SHORT: return "the bytes end inside a count or a section";
+    case OCTALMURE_REFUSAL_SETTING_COUNT: return "the setting's count is not 2";
+    case OCTALMURE_REFUSAL_SETTING_RANGE: return "N or H out of range";
+    case OCTALMURE_REFUSAL_TASK_COUNT: return "task count out of range";
+    case OCTALMURE_REFUSAL_TASK_RANGE: return "a task out of its ranges";
+    case OCTALMURE_REFUSAL_TOO_MANY_JOBS: return "more than 512 jobs";
+    case OCTALMURE_REFUSAL_RECORD_COUNT: return "record count above 512";
+    case OCTALMURE_REFUSAL_TRAILING_BYTES: return "bytes after the last section";
+    case OCTALMURE_REFUSAL_NEW_HORIZON: return "the new horizon is below H or above 1,000,000";
+    case OCTALMURE_REFUSAL_BROKEN_RUN: return "the run to be carried breaks a rule";
+    case OCTALMURE_REFUSAL_SHORT_OUTPUT: return "a lent output is too short";
+    default: return "no such refusal";
+    }
+}
+
+#ifdef __cplusplus
+}
+#endif
+
+#endif

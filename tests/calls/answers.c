@@ -1,0 +1,34 @@
+/* The decoder and the texts. */
+#include <octalmure.h>
+#include <string.h>
+
+#include "trial.h"
+
+static void try_decoding(Count *sum) {
+    uint8_t bytes[OCTALMURE_ANSWER_BYTES];
+    for (size_t i = 0; i < sizeof bytes; i++) {
+        bytes[i] = (uint8_t)(i < 4 ? 0xFF - i : i);
+    }
+    struct octalmure_answer five = octalmure_decode(bytes);
+    bool right = five.answer == 0xFCFDFEFF && five.code == 0x07060504 && five.place[0] == 0x0B0A0908 && five.place[1] == 0x0F0E0D0C &&
+                 five.place[2] == 0x13121110;
+    count(sum, right, "the five numbers are not those of the bytes");
+}
+
+/* Numbers 1 to the last have texts of their own; the numbers around them have the other one. */
+static void try_texts(Count *sum, const char *(*text)(uint32_t), uint32_t last, const char *none) {
+    for (uint32_t i = 1; i <= last; i++) {
+        bool own = strcmp(text(i), none) != 0;
+        for (uint32_t j = 1; j < i; j++) {
+            own = own && strcmp(text(i), text(j)) != 0;
+        }
+        count(sum, own, "a number without a text of its own");
+    }
+    count(sum, strcmp(text(0), none) == 0 && strcmp(text(last + 1), none) == 0, "a text for a number that is none");
+}
+
+void try_answers(Count *sum) {
+    try_decoding(sum);
+    try_texts(sum, octalmure_rule_text, 8, "no such rule");
+    try_texts(sum, octalmure_refusal_text, 11, "no such refusal");
+}
