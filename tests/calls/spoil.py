@@ -1,0 +1,42 @@
+#!/usr/bin/env python3
+"""Writes run C1 with single numbers changed, one file for each sentence that the examples do not bring about.
+
+  spoil.py C1.run FOLDER
+"""
+import pathlib
+import struct
+import sys
+
+C1, FOLDER = pathlib.Path(sys.argv[1]).read_bytes(), pathlib.Path(sys.argv[2])
+FIRST_TASK, FIRST_RECORD = 4, 25
+
+
+def task(number, field):
+    return FIRST_TASK + 5 * number + "PBWOJ".index(field)
+
+
+def record(number, field):
+    return FIRST_RECORD + 6 * number + ("task", "job", "r", "s", "e", "core").index(field)
+
+
+SPOILED = {
+    "two-late": {task(1, "P"): 20},
+    "rule-2": {record(0, "r"): 2},
+    "rule-3": {record(0, "s"): 0},
+    "rule-5": {record(0, "core"): 3},
+    "rule-6": {record(0, "core"): 1},
+    "rule-7": {
+        record(0, "s"): 17, record(0, "e"): 19, record(0, "core"): 1,
+        record(1, "s"): 19, record(1, "e"): 21,
+        record(2, "s"): 15, record(2, "e"): 23,
+    },
+    "refusal-2": {0: 3},
+    "refusal-5": {task(1, "P"): 0},
+}
+
+for name, changes in SPOILED.items():
+    numbers = list(struct.unpack(f"<{len(C1) // 4}I", C1))
+    for at, value in changes.items():
+        numbers[at] = value
+    (FOLDER / f"{name}.run").write_bytes(struct.pack(f"<{len(numbers)}I", *numbers))
+(FOLDER / "too-long.run").write_bytes(C1 + bytes(20000))
