@@ -36,8 +36,8 @@ static void say_place(uint32_t rule, const uint32_t place[3]) {
         printf("The first pair that breaks it is records %" PRIu32 " and %" PRIu32 ".\n", place[0], place[1]);
         break;
     case OCTALMURE_RULE_NO_IDLING:
-        printf("The first record that breaks it is record %" PRIu32 ": at instant %" PRIu32 " it waits and core %" PRIu32 " is idle.\n",
-               place[0], place[1], place[2]);
+        printf("The first record that breaks it is record %" PRIu32 ": ", place[0]);
+        printf("at instant %" PRIu32 " it waits and core %" PRIu32 " is idle.\n", place[1], place[2]);
         break;
     default: printf("The first record that breaks it is record %" PRIu32 ".\n", place[0]); break;
     }

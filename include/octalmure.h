@@ -17,60 +17,63 @@ extern "C" {
 
 /* ---- sizes and limits ---- */
 
-#define OCTALMURE_ANSWER_BYTES 20        /* the five numbers of an answer */
-#define OCTALMURE_MOST_FILE_BYTES 12948  /* the longest run file that is read through; room enough for every carried run */
-#define OCTALMURE_MOST_CORES 16          /* N is 1 to 16 */
-#define OCTALMURE_MOST_TASKS 32          /* a file has 1 to 32 tasks */
-#define OCTALMURE_MOST_JOBS 512          /* all tasks together have 0 to 512 jobs, and a file as many records */
-#define OCTALMURE_MOST_HORIZON 1000000   /* H is 1 to 1,000,000 ticks */
-#define OCTALMURE_MOST_TICKS 1000000     /* so are P, B and W; O is 0 to 1,000,000; J is below P */
+#define OCTALMURE_ANSWER_BYTES 20       /* the five numbers of an answer */
+#define OCTALMURE_MOST_FILE_BYTES 12948 /* the longest run file that is read through; room enough for every carried run */
+#define OCTALMURE_MOST_CORES 16         /* N is 1 to 16 */
+#define OCTALMURE_MOST_TASKS 32         /* a file has 1 to 32 tasks */
+#define OCTALMURE_MOST_JOBS 512         /* all tasks together have at most 512 jobs, and a file at most 512 records */
+#define OCTALMURE_MOST_HORIZON 1000000  /* H is 1 to 1,000,000 ticks */
+#define OCTALMURE_MOST_TICKS 1000000    /* so are P, B and W; O is 0 to 1,000,000; J is below P */
 
 /* ---- what is answered ---- */
 
-/* The number that a call returns, and the first of the five numbers. */
+/* An answer is five numbers: the answer, a code, and three for the place. */
 enum octalmure_answer_number {
-    OCTALMURE_NONE_LATE = 0,     /* accepted, no job late.                           Code 0 */
-    OCTALMURE_LATE_BEFORE_H = 1, /* accepted, some late job begins before H.         Code: late records, all of them.
-                                    Place: the least late record that begins before H */
-    OCTALMURE_LATE_FROM_H = 2,   /* accepted, late jobs exist, none begins before H. Code: late records.
-                                    Place: the least late record */
-    OCTALMURE_BROKEN = 3,        /* a rule is broken.                                Code: an octalmure_rule, the lowest broken.
-                                    Place: as there */
-    OCTALMURE_REFUSED = 4,       /* refused.                                         Code: an octalmure_refusal.
-                                    Place: the task, for OCTALMURE_REFUSAL_TASK_RANGE */
-    OCTALMURE_CARRIED = 5        /* carried.                                         Code: bytes written to the output */
+    /* Accepted, no job late. Code 0. */
+    OCTALMURE_NONE_LATE = 0,
+    /* Accepted, some late job begins before H. Code: how many records are late, all of them. Place: the least late record that begins
+       before H. */
+    OCTALMURE_LATE_BEFORE_H = 1,
+    /* Accepted, late jobs exist, none begins before H. Code: how many records are late. Place: the least late record. */
+    OCTALMURE_LATE_FROM_H = 2,
+    /* A rule is broken. Code: the lowest broken octalmure_rule. Place: the first at which it is broken, as is said there. */
+    OCTALMURE_BROKEN = 3,
+    /* Refused. Code: an octalmure_refusal. Place: the task, for OCTALMURE_REFUSAL_TASK_RANGE. */
+    OCTALMURE_REFUSED = 4,
+    /* Carried. Code: how many bytes were written to the output. */
+    OCTALMURE_CARRIED = 5
 };
 
-/* The code of OCTALMURE_BROKEN, with its place: the first at which the rule is broken. Records are counted from 0. */
+/* Codes of OCTALMURE_BROKEN, each with the numbers of its place. Records are counted from 0. */
 enum octalmure_rule {
-    OCTALMURE_RULE_JOBS = 1,       /* k: the records and the existing jobs, in order, first differ at number k */
+    OCTALMURE_RULE_JOBS = 1,       /* the first k at which the records and the existing jobs, in order, differ */
     OCTALMURE_RULE_RELEASE = 2,    /* record */
     OCTALMURE_RULE_START = 3,      /* record */
     OCTALMURE_RULE_LENGTH = 4,     /* record */
     OCTALMURE_RULE_CORE = 5,       /* record */
-    OCTALMURE_RULE_NO_OVERLAP = 6, /* record a, record b, a < b */
-    OCTALMURE_RULE_ORDER = 7,      /* record a, record b */
+    OCTALMURE_RULE_NO_OVERLAP = 6, /* record a, record b; a < b */
+    OCTALMURE_RULE_ORDER = 7,      /* record a, record b; a started first */
     OCTALMURE_RULE_NO_IDLING = 8   /* record, instant, core */
 };
 
-/* The code of OCTALMURE_REFUSED. A file is judged from the front, and the first fault met is the answer; 9 to 11 come last. */
+/* Codes of OCTALMURE_REFUSED. A file is judged from the front, and the first fault met is the answer. 9 to 11 are for carrying. */
 enum octalmure_refusal {
-    OCTALMURE_REFUSAL_CUT_SHORT = 1,
-    OCTALMURE_REFUSAL_SETTING_COUNT = 2,
-    OCTALMURE_REFUSAL_SETTING_RANGE = 3,
-    OCTALMURE_REFUSAL_TASK_COUNT = 4,
-    OCTALMURE_REFUSAL_TASK_RANGE = 5,
-    OCTALMURE_REFUSAL_TOO_MANY_JOBS = 6,
-    OCTALMURE_REFUSAL_RECORD_COUNT = 7,
-    OCTALMURE_REFUSAL_TRAILING_BYTES = 8,
-    OCTALMURE_REFUSAL_NEW_HORIZON = 9,
-    OCTALMURE_REFUSAL_BROKEN_RUN = 10,
-    OCTALMURE_REFUSAL_SHORT_OUTPUT = 11
+    OCTALMURE_REFUSAL_CUT_SHORT = 1,      /* the bytes end inside a count or a section */
+    OCTALMURE_REFUSAL_SETTING_COUNT = 2,  /* the setting's count is not 2 */
+    OCTALMURE_REFUSAL_SETTING_RANGE = 3,  /* N or H out of range */
+    OCTALMURE_REFUSAL_TASK_COUNT = 4,     /* task count out of range */
+    OCTALMURE_REFUSAL_TASK_RANGE = 5,     /* a task out of its ranges; the least one is the place */
+    OCTALMURE_REFUSAL_TOO_MANY_JOBS = 6,  /* more than 512 jobs, at H or, when carrying, at H' */
+    OCTALMURE_REFUSAL_RECORD_COUNT = 7,   /* record count above 512 */
+    OCTALMURE_REFUSAL_TRAILING_BYTES = 8, /* bytes after the last section */
+    OCTALMURE_REFUSAL_NEW_HORIZON = 9,    /* H' below H or above 1,000,000 */
+    OCTALMURE_REFUSAL_BROKEN_RUN = 10,    /* the run to be carried breaks a rule */
+    OCTALMURE_REFUSAL_SHORT_OUTPUT = 11   /* the output is too short */
 };
 
 /* The five numbers. Numbers of the place that are not used are 0. */
 struct octalmure_answer {
-    uint32_t answer;   /* an octalmure_answer_number */
+    uint32_t answer; /* an octalmure_answer_number */
     uint32_t code;
     uint32_t place[3];
 };
@@ -83,8 +86,8 @@ struct octalmure_answer {
  * - An answer slice of fewer than 20 bytes is met first of all: the call returns OCTALMURE_REFUSED, and no byte of any slice changes.
  * - The file never changes.
  *
- * All this is proved, of slices. What no proof can see is whether a pointer and a length from C are one, so it is for the caller of the
- * two plain calls to see to it that
+ * All this is proved, of slices. What no proof can see is whether a pointer and a length from C are one, so it is for the caller of
+ * the two plain calls to see to it that
  * - each pointer leads to as many bytes as its length says, at most PTRDIFF_MAX; no pointer is null, even where the length is 0;
  * - the answer slice shares no byte with the file or the output, and the output none with the file.
  * Otherwise what a plain call does is not defined. The guarded calls below look for what can be seen of this.
@@ -93,14 +96,14 @@ struct octalmure_answer {
  * outlives it, so calls may run side by side, each with its own output and answer.
  */
 
-/* Checks the run in the file. Returns 0 to 4. */
+/* Checks the run in the file. Returns 0 to 4, OCTALMURE_NONE_LATE to OCTALMURE_REFUSED; the answer has the code and the place. */
 uint32_t octalmure_check(const uint8_t *file, size_t file_length, uint8_t *answer, size_t answer_length);
 
-/* Carries the run in the file to the horizon, H', which is at least the file's H.
+/* Carries the run in the file to the horizon H', which is at least the file's H.
  * Carried: returns OCTALMURE_CARRIED, and the front of the output is the carried run as a whole file, of as many bytes as the code
  *   says: 20, and 20 for each task, and 24 for each job at H'. Bytes of the output after it keep their values.
- * Refused: returns OCTALMURE_REFUSED, and no byte of the output changes. A run that breaks a rule is refused, without the rule; check
- *   names it.
+ * Refused: returns OCTALMURE_REFUSED, and no byte of the output changes. A file that check refuses is refused in the same way; then
+ *   come 9, 6 at H', 10 and 11, in this order. 10 does not tell which rule the run breaks; check does.
  */
 uint32_t octalmure_carry(const uint8_t *file, size_t file_length, uint32_t horizon, uint8_t *output, size_t output_length,
                          uint8_t *answer, size_t answer_length);
@@ -111,8 +114,8 @@ uint32_t octalmure_carry(const uint8_t *file, size_t file_length, uint32_t horiz
  * - a pointer is null and its length is not 0;
  * - a length is above PTRDIFF_MAX (as a negative number is, once it is a size_t), or leads past the last address;
  * - two of the slices share a byte. (Each pair has one that is written.)
- * Otherwise it does what the plain call does. A slice of length 0 shares no byte, and its pointer may be null. That a pointer leads to
- * memory of its length cannot be seen: that remains for the caller.
+ * Otherwise it does what the plain call does. A slice of length 0 shares no byte, and its pointer may be null. Whether a pointer
+ * leads to memory of its length cannot be seen: that remains for the caller.
  *
  * To tell "nothing was judged" from a refusal, set the answer to zeros first: its first number is then not the one that is returned.
  */

@@ -32,5 +32,6 @@ void try_small_stack(Count *sum, const uint8_t *file, size_t length) {
     fflush(stdout);
     bool ran = pthread_attr_init(&small) == 0 && pthread_attr_setstacksize(&small, SMALL_STACK) == 0 &&
                pthread_create(&thread, &small, run, &work) == 0 && pthread_join(thread, NULL) == 0;
-    count(sum, ran && work.checked <= OCTALMURE_LATE_FROM_H && work.carried == OCTALMURE_CARRIED, "not accepted and carried on a small stack");
+    count(sum, ran && work.checked <= OCTALMURE_LATE_FROM_H && work.carried == OCTALMURE_CARRIED,
+          "not accepted and carried on a small stack");
 }

@@ -34,7 +34,8 @@ static uint32_t plain(uint8_t *room, const Call *call) {
     if (!call->carry) {
         return octalmure_check(room + file.at, file.length, room + answer.at, answer.length);
     }
-    return octalmure_carry(room + file.at, file.length, call->horizon, room + output.at, output.length, room + answer.at, answer.length);
+    return octalmure_carry(room + file.at, file.length, call->horizon, room + output.at, output.length, room + answer.at,
+                           answer.length);
 }
 
 /* Marks the bytes of a slice; says whether one was marked before. */
