@@ -1,0 +1,150 @@
+/* One input, tried: see input.h. */
+#include <octalmure.h>
+#include <stdbool.h>
+#include <stdio.h>
+#include <stdlib.h>
+#include <string.h>
+
+#include "input.h"
+#include "oracle.h"
+
+/* The archive's code with probes, see probe.py. */
+extern uint32_t probed_check(const uint8_t *file, size_t file_length, uint8_t *answer, size_t answer_length);
+extern uint32_t probed_carry(const uint8_t *file, size_t file_length, uint32_t horizon, uint8_t *output, size_t output_length,
+                             uint8_t *answer, size_t answer_length);
+
+typedef struct {
+    uint32_t (*check)(const uint8_t *, size_t, uint8_t *, size_t);
+    uint32_t (*carry)(const uint8_t *, size_t, uint32_t, uint8_t *, size_t, uint8_t *, size_t);
+} Subject;
+
+static const Subject archive = {octalmure_guarded_check, octalmure_guarded_carry}, probed = {probed_check, probed_carry},
+                     oracle = {oracle_check, oracle_carry};
+
+enum { CANARY = 32, ALIGNMENTS = 16, PATTERN = 0xA5, MOST_BYTES = MOST_INPUT };
+
+/* A slice between bytes that must not change. */
+typedef struct {
+    uint8_t bytes[CANARY + ALIGNMENTS + MOST_BYTES + CANARY];
+} Lent;
+
+/* The memory of one call, and what it returned. */
+typedef struct {
+    Lent file, output, answer;
+    uint32_t returned;
+} Memory;
+
+typedef struct {
+    const uint8_t *file;
+    size_t length, output_length, answer_length, front;
+    uint32_t horizon;
+} Call;
+
+static void demand(bool holds, const char *what) {
+    if (!holds) {
+        fprintf(stderr, "fuzz: %s\n", what);
+        abort();
+    }
+}
+
+/* Only what a call can reach, and the canaries: most slices are short, and a call must be quick. */
+static void lend(Lent *lent, const Call *call, size_t length) {
+    memset(lent->bytes, PATTERN, call->front + length + CANARY);
+}
+
+static void lend_all(Memory *memory, const Call *call) {
+    lend(&memory->file, call, call->length);
+    lend(&memory->output, call, call->output_length);
+    lend(&memory->answer, call, call->answer_length);
+    memcpy(memory->file.bytes + call->front, call->file, call->length);
+}
+
+static void check(const Subject *subject, const Call *call, Memory *memory) {
+    size_t front = call->front;
+    lend_all(memory, call);
+    memory->returned = subject->check(memory->file.bytes + front, call->length, memory->answer.bytes + front, call->answer_length);
+}
+
+static void carry(const Subject *subject, const Call *call, Memory *memory) {
+    size_t front = call->front;
+    lend_all(memory, call);
+    memory->returned = subject->carry(memory->file.bytes + front, call->length, call->horizon, memory->output.bytes + front,
+                                      call->output_length, memory->answer.bytes + front, call->answer_length);
+}
+
+/* Whether the slice and its canaries have the pattern, but for its first bytes. */
+static bool changed_only(const Lent *lent, const Call *call, size_t length, size_t first) {
+    static Lent pattern;
+    if (pattern.bytes[0] != PATTERN) {
+        memset(pattern.bytes, PATTERN, sizeof pattern.bytes);
+    }
+    return memcmp(lent->bytes, pattern.bytes, call->front) == 0 &&
+           memcmp(lent->bytes + call->front + first, pattern.bytes, length - first + CANARY) == 0;
+}
+
+static bool same_slice(const Lent *a, const Lent *b, const Call *call, size_t length) {
+    return memcmp(a->bytes, b->bytes, call->front + length + CANARY) == 0;
+}
+
+static bool same(const Memory *a, const Memory *b, const Call *call) {
+    return a->returned == b->returned && same_slice(&a->file, &b->file, call, call->length) &&
+           same_slice(&a->output, &b->output, call, call->output_length) &&
+           same_slice(&a->answer, &b->answer, call, call->answer_length);
+}
+
+/* What holds of every call, whatever the oracle says. */
+static void demand_laws(const Call *call, const Memory *memory, bool carries) {
+    struct octalmure_answer five = octalmure_decode(memory->answer.bytes + call->front);
+    bool told = call->answer_length >= OCTALMURE_ANSWER_BYTES;
+    size_t written = told && memory->returned == OCTALMURE_CARRIED ? five.code : 0;
+    demand(memory->returned <= (carries ? OCTALMURE_CARRIED : OCTALMURE_REFUSED), "a number that is no answer of the call");
+    demand(!carries || memory->returned >= OCTALMURE_REFUSED, "a carry that neither carried nor refused");
+    demand(told ? five.answer == memory->returned : memory->returned == OCTALMURE_REFUSED, "the answer is not the number returned");
+    demand(memcmp(memory->file.bytes + call->front, call->file, call->length) == 0, "the file changed");
+    demand(written <= call->output_length, "more is written than there is room for");
+    demand(changed_only(&memory->file, call, call->length, call->length), "bytes around the file changed");
+    demand(changed_only(&memory->output, call, call->output_length, written), "bytes of the output that must not change");
+    demand(changed_only(&memory->answer, call, call->answer_length, told ? OCTALMURE_ANSWER_BYTES : 0),
+           "bytes of the answer that must not change");
+}
+
+/* All three say and leave the same; what they left is then in the memory. */
+static void agree(const Call *call, void (*make)(const Subject *, const Call *, Memory *), Memory *memory) {
+    static Memory other;
+    make(&archive, call, memory);
+    make(&oracle, call, &other);
+    demand(same(memory, &other, call), "the archive and the independent checker differ");
+    make(&probed, call, &other);
+    demand(same(memory, &other, call), "the archive and its code with probes differ");
+}
+
+/* The carried run is accepted, and lateness that was shown stays shown. */
+static void demand_carried(const Call *call, const Memory *carried, uint32_t before) {
+    static Memory memory;
+    Call again = *call;
+    again.file = carried->output.bytes + call->front;
+    again.length = octalmure_decode(carried->answer.bytes + call->front).code;
+    again.output_length = 0;
+    agree(&again, check, &memory);
+    demand(memory.returned <= OCTALMURE_LATE_FROM_H, "the carried run is not accepted");
+    demand(before != OCTALMURE_LATE_BEFORE_H || memory.returned == OCTALMURE_LATE_BEFORE_H, "lateness before H did not stay");
+}
+
+void try_input(const uint8_t *input, size_t length) {
+    static Memory checked, carried;
+    uint8_t head[INPUT_HEAD] = {0};
+    memcpy(head, input, length < INPUT_HEAD ? length : INPUT_HEAD);
+    Call call = {.file = input + (length < INPUT_HEAD ? length : INPUT_HEAD),
+                 .length = length < INPUT_HEAD ? 0 : length - INPUT_HEAD,
+                 .horizon = octalmure_number(head),
+                 .output_length = (head[4] | (size_t)head[5] << 8) % (MOST_BYTES + 1),
+                 .answer_length = answer_length_of(head[6]),
+                 .front = CANARY + head[7] % ALIGNMENTS};
+    agree(&call, check, &checked);
+    demand_laws(&call, &checked, false);
+    agree(&call, carry, &carried);
+    demand_laws(&call, &carried, true);
+    if (carried.returned == OCTALMURE_CARRIED) {
+        demand_carried(&call, &carried, checked.returned);
+    }
+}
