@@ -72,7 +72,8 @@ int main(int argc, char **argv) {
     size_t length;
     uint32_t horizon;
     if (argc != 3) {
-        fprintf(stderr, "usage: host FILE HORIZON\n");
+        fprintf(stderr, "usage: host FILE HORIZON\n"
+                        "exit status: 0 accepted and carried; 1 a rule is broken; 2 bad usage, or FILE cannot be read; 3 refused\n");
         return STATUS_USAGE;
     }
     if (!read_horizon(argv[2], &horizon)) {
