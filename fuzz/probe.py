@@ -20,7 +20,7 @@ PROBE = """\tlea -128(%rsp), %rsp
 \tpopfq
 \tlea 128(%rsp), %rsp"""
 PUBLIC = {".text.octalmure_check": "probed_check", ".text.octalmure_carry": "probed_carry"}
-INSTRUCTION = re.compile(r"^\s*([0-9a-f]+):\t([0-9a-f ]+?)\s*\t(\S+)\s*(\S*)")
+INSTRUCTION = re.compile(r"^\s*([0-9a-f]+):\t([0-9a-f ]+?)\s*\t(\S+)\s*(.*)$")
 RELOCATION = re.compile(r"^([0-9a-f]+) (R_X86_64_\w+)\s+(\S+?)([+-]0x[0-9a-f]+)?$")
 SECTION = re.compile(r"^(?:Disassembly of section|Contents of section|RELOCATION RECORDS FOR) \[?(.+?)\]?:$")
 SYMBOL = re.compile(r"^([0-9a-f]+) l\s+(\S+)\s+[0-9a-f]+ (\.LCPI\S+)$")
@@ -87,18 +87,19 @@ class Writer:
         print("\n".join(self.detours))
         self.detours = []
 
-    def instruction(self, section, at, raw, name, operand):
-        if name == "jmp" and not operand.startswith("*"):
-            print(f"\tjmp {self.source.labels[section]}_{operand}")
+    def instruction(self, section, at, raw, name, operands):
+        if name == "jmp" and not operands.startswith("*"):
+            print(f"\tjmp {self.source.labels[section]}_{operands.split()[0]}")
         elif name.startswith("j") and name != "jmp":
             after = f"{int(at, 16) + len(raw):x}"
-            print(f"\t{name} {self.detour(section, at, operand)}\n{self.probe(section, at, after)}")
+            print(f"\t{name} {self.detour(section, at, operands.split()[0])}\n{self.probe(section, at, after)}")
         else:
-            self.plain(section, int(at, 16), raw, name)
+            self.plain(section, int(at, 16), raw, operands)
 
-    def plain(self, section, at, raw, name):
+    def plain(self, section, at, raw, operands):
+        """An instruction that is no direct jump. One that names a place (objdump writes <PLACE>) must do so by a relocation."""
         inside = [place for place in self.source.relocations.get(section, {}) if at <= place < at + len(raw)]
-        if len(inside) > 1 or (name == "call" and not inside):
+        if len(inside) > 1 or ("<" in operands and not inside):
             sys.exit(f"probe.py: {section}+{at:x}: an instruction of a form that is not known here")
         for place in inside:
             kind, symbol, plus = self.source.relocations[section][place]
