@@ -1,1 +1,2 @@
+pub mod FirstFrom
 pub mod Idle

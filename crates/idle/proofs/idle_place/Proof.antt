@@ -10,16 +10,19 @@ use Rattle.idle.proofs.idle_place.Statement.{statement}
 use Rattle.idle.proofs.idle_place.Tie as tie
 
 abbrev Inv-loop : tie.InvT-loop
-Inv-loop cores ready start end core n idle a₀ a = (a ≤ n) × NothingTo (idleIn start end core cores ready) 0 a
+Inv-loop cores ready start end core n until begun a₀ a = (a ≤ n) × NothingTo (idleIn start end core cores ready) 0 a
 
 abbrev μ-loop : tie.MeasureT-loop
-μ-loop cores ready start end core n idle a₀ a = n - a
+μ-loop cores ready start end core n until begun a₀ a = n - a
 
-slice-aggregate-idle-at-ends : tie.Need-slice-aggregate-idle-at-ends Inv-loop μ-loop
-slice-aggregate-idle-at-ends c = search needs
+slice-aggregate-idle-until : tie.Need-slice-aggregate-idle-until Inv-loop μ-loop
+slice-aggregate-idle-until c = search needs
 
-idle-at-ends-requires : tie.Need-idle-at-ends-requires Inv-loop μ-loop
-idle-at-ends-requires c κs = search needs
+idle-until-requires : tie.Need-idle-until-requires Inv-loop μ-loop
+idle-until-requires c κs = search needs
+
+all-begun-requires : tie.Need-all-begun-requires Inv-loop μ-loop
+all-begun-requires c κs = search needs
 
 loop-holds : tie.Need-loop-holds Inv-loop μ-loop
 loop-holds c = search (needs, nothing-yet)
@@ -41,14 +44,15 @@ slice-aggregate-first-idle c = search needs
 
 first-idle-requires : tie.Need-first-idle-requires Inv-loop μ-loop
 first-idle-requires c κs =
-    let E = c .before .before .before .before .before .before .idle-at-ends in
-    (search needs, search needs, search needs, omega (arith, E .kept .1 .1 .1 .1 .0), E .ensures)
+    let B = c .before .before .before .before .before in
+    let U = B .before .before .idle-until in
+    (search needs, search needs, search needs, omega (arith, U .kept .1 .1 .1 .1 .0), B .all-begun .ensures, U .ensures)
 
 enum-known-t : tie.Need-enum-known-t Inv-loop μ-loop
 enum-known-t c = search needs
 
-cast-t24 : tie.Need-cast-t24 Inv-loop μ-loop
-cast-t24 c = search needs
+cast-t25 : tie.Need-cast-t25 Inv-loop μ-loop
+cast-t25 c = search needs
 
 returns : tie.Need-returns Inv-loop μ-loop
 unfolding idleIn
@@ -76,8 +80,9 @@ idle-place-spec =
     (tie.spec
     Inv-loop
     μ-loop
-    slice-aggregate-idle-at-ends
-    idle-at-ends-requires
+    slice-aggregate-idle-until
+    idle-until-requires
+    all-begun-requires
     loop-holds
     mul-first-idle
     shared-slice-read-first-idle
@@ -86,7 +91,7 @@ idle-place-spec =
     slice-aggregate-first-idle
     first-idle-requires
     enum-known-t
-    cast-t24
+    cast-t25
     returns
     enum-told
     add-a

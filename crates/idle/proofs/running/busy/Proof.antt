@@ -9,9 +9,9 @@ use Rattle.base.specs.Find.{found}
 use Rattle.base.proofs.Test.{says-true, says-false}
 use Rattle.base.proofs.Loop.{NoneTo, none-yet, none-on, first-hit, first-miss}
 use Rattle.idle.specs.Idle.{holdsIn, busyIn}
-use Rattle.idle.proofs.Idle.{says-holds}
-use Rattle.idle.proofs.busy.Statement.{statement}
-use Rattle.idle.proofs.busy.Tie as tie
+use Rattle.idle.proofs.Busy.{says-holds}
+use Rattle.idle.proofs.running.busy.Statement.{statement}
+use Rattle.idle.proofs.running.busy.Tie as tie
 
 abbrev Inv-loop : tie.InvT-loop
 Inv-loop c t start end core k₀ k = (k ≤ length start) × NoneTo (holdsIn start end core c t) 0 k

@@ -5,8 +5,8 @@ use native.Mathlib.Omega.{arith}
 use borrow.Author.Needs.{needs}
 use Rattle.base.proofs.Loop.{NoneTo, none-yet, none-on, first-hit, first-miss}
 use Rattle.idle.specs.Idle.{busyIn, idleCoreIn}
-use Rattle.idle.proofs.idle_core.Statement.{statement}
-use Rattle.idle.proofs.idle_core.Tie as tie
+use Rattle.idle.proofs.running.idle_core.Statement.{statement}
+use Rattle.idle.proofs.running.idle_core.Tie as tie
 
 abbrev Inv-loop : tie.InvT-loop
 Inv-loop cores t start end core c₀ c = (1 ≤ c) × (c ≤ cores + 1) × NoneTo (λ c. not (busyIn start end core c t)) 1 c

@@ -1,0 +1,79 @@
+-- The loop writes the column. Assumes nothing.
+use Prim.Native.Nat.{_-_, _≤_}
+use mathlib.Core.Path.{_≡_}
+use native.Mathlib.Omega.{arith}
+use borrow.Author.Needs.{needs}
+use lib.ListN.{length, length-set}
+use Rattle.idle.specs.Idle.{Untils}
+use Rattle.idle.proofs.Stretches.{untils-yet, untils-on}
+use Rattle.idle.proofs.until.idle_until.Statement.{statement}
+use Rattle.idle.proofs.until.idle_until.Tie as tie
+
+abbrev Inv-loop : tie.InvT-loop
+Inv-loop cores start end core until₀ k₀ until k = (length until ≡ length until₀) × (k ≤ length end) × Untils start end core cores k until
+
+abbrev μ-loop : tie.MeasureT-loop
+μ-loop cores start end core until₀ k₀ until k = length end - k
+
+loop-holds : tie.Need-loop-holds Inv-loop μ-loop
+loop-holds c = search (needs, untils-yet)
+
+mul-idle-after : tie.Need-mul-idle-after Inv-loop μ-loop
+mul-idle-after c = search needs
+
+shared-slice-read-idle-after : tie.Need-shared-slice-read-idle-after Inv-loop μ-loop
+shared-slice-read-idle-after c = search needs
+
+mul-idle-after-2 : tie.Need-mul-idle-after-2 Inv-loop μ-loop
+mul-idle-after-2 c = search needs
+
+shared-slice-read-idle-after-2 : tie.Need-shared-slice-read-idle-after-2 Inv-loop μ-loop
+shared-slice-read-idle-after-2 c = search needs
+
+idle-after-requires : tie.Need-idle-after-requires Inv-loop μ-loop
+idle-after-requires c κs = search needs
+
+mul-until : tie.Need-mul-until Inv-loop μ-loop
+mul-until c = search needs
+
+slice-write-until : tie.Need-slice-write-until Inv-loop μ-loop
+slice-write-until c = search needs
+
+add-k : tie.Need-add-k Inv-loop μ-loop
+add-k c = search needs
+
+loop-less : tie.Need-loop-less Inv-loop μ-loop
+loop-less c = search needs
+
+loop-again : tie.Need-loop-again Inv-loop μ-loop
+loop-again c =
+    let I = c .before .before .before .before .loop .inv in
+    (simp length-set (I .0), search needs, untils-on _ _ _ (I .2) (omega arith) (c .idle-after .ensures))
+
+same-length : tie.Need-same-length Inv-loop μ-loop
+same-length c = search needs
+
+returns : tie.Need-returns Inv-loop μ-loop
+returns c =
+    let e : c .before .loop .k ≡ length (c .before .before .before .before .before .before .args .end .now) = omega arith in
+    rw e at (c .before .loop .inv .2)
+
+pub idle-until-spec : {M : Type 1} → statement M
+idle-until-spec =
+    tie.close
+    (tie.spec
+    Inv-loop
+    μ-loop
+    loop-holds
+    mul-idle-after
+    shared-slice-read-idle-after
+    mul-idle-after-2
+    shared-slice-read-idle-after-2
+    idle-after-requires
+    mul-until
+    slice-write-until
+    add-k
+    loop-less
+    loop-again
+    same-length
+    returns)
