@@ -1,8 +1,8 @@
 // When a core is busy.
 use crate::instant::NEVER;
 use crate::instant::first_within;
-use crate::instant::sooner;
 use base::Found;
+use base::sooner;
 ghost use mathlib.Core.Path.{_≡_};
 ghost use Prim.Native.Nat.{_≤_};
 ghost use lib.ListN.{length};

@@ -1,6 +1,6 @@
 // Until when the core of each record idles after its end, and from when on each core has begun: found once for all waits.
-use crate::instant::later;
 use crate::running::busy_from;
+use base::later;
 ghost use mathlib.Core.Path.{_≡_};
 ghost use Prim.Native.Nat.{_+_, _≤_};
 ghost use lib.ListN.{length};

@@ -1,10 +1,10 @@
 // The least instant of a wait at which a core idles.
 use crate::instant::NEVER;
 use crate::instant::first_within;
-use crate::instant::sooner;
 use crate::running::idle_core;
 use base::Found;
 use base::FoundTwo;
+use base::sooner;
 ghost use mathlib.Core.Path.{_≡_};
 ghost use Prim.Native.Nat.{_+_, _-_, _≤_};
 ghost use lib.ListN.{length};

@@ -1,6 +1,6 @@
 // The job that starts next, by one pass over the jobs.
-use crate::instant::later;
 use base::FoundTwo;
+use base::later;
 ghost use mathlib.Core.Path.{_≡_};
 ghost use Prim.Native.Nat.{_+_, _≤_, _<_};
 ghost use lib.ListN.{length};

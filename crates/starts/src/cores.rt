@@ -1,6 +1,6 @@
 // The cores: when each is free, and which is taken, by one pass over them.
-use crate::instant::later;
-use crate::instant::sooner;
+use base::later;
+use base::sooner;
 ghost use mathlib.Core.Path.{_≡_};
 ghost use mathlib.Core.List.{List};
 ghost use Prim.Native.Nat.{ℕ, _+_, _≤_, _<_};

@@ -1,13 +1,12 @@
 // A carry from one start to the next: each start is one pass over the jobs and one over the cores, whatever the times.
 mod choose;
 mod cores;
-mod instant;
 
 use base::FoundTwo;
+use base::later;
 use choose::choose;
 use cores::free_cores;
 use cores::take_core;
-use instant::later;
 use model::Tasks;
 ghost use mathlib.Core.Path.{_≡_};
 ghost use mathlib.Core.List.{map};

@@ -4,35 +4,25 @@ use borrow.Author.Needs.{needs}
 use Rattle.starts.proofs.Taking.{take-it, pass-it}
 use Rattle.starts.proofs.cores.try_core.Statement.{statement}
 use Rattle.starts.proofs.cores.try_core.Tie as tie
-use Rattle.starts.proofs.cores.try_core.Reads as reads
-use Rattle.starts.proofs.cores.try_core.Lts as lts
-use Rattle.starts.proofs.instant.sooner.Reads as sooner-reads
 
--- src/cores.rt:68:13
 mul-e : tie.Need-mul-e
 mul-e c = search needs
 
--- src/cores.rt:68:13
 element-copy-out-e : tie.Need-element-copy-out-e
 element-copy-out-e c = search needs
 
--- src/cores.rt:71:13
 mul-next : tie.Need-mul-next
 mul-next c = search needs
 
--- src/cores.rt:71:13
 element-write-next : tie.Need-element-write-next
 element-write-next c = search needs
 
--- src/cores.rt:73:13
 returns : tie.Need-returns
 returns c = λ xs T. take-it (search needs) (search needs) T (search needs) (search needs)
 
--- src/cores.rt:76:18
 sooner-requires : tie.Need-sooner-requires
 sooner-requires c κs = search needs
 
--- src/cores.rt:62:1
 returns-2 : tie.Need-returns-2
 returns-2 c = λ xs T.
     rw (c .sooner .ensures)
