@@ -48,7 +48,7 @@ fn recorded_jobs(setting: Setting, tasks: Tasks, n: u32, task: &[u32], job: &[u3
     jobs_place(task, job, &wanted[..m as usize], &number[..m as usize])
 }
 
-// Rules 6 to 8, once 1 to 5 hold, and then the late records, over the deadlines.
+// Rules 7 and 8, once 1 to 6 hold, and then the late records, over the deadlines.
 fn judge_times(
     setting: Setting,
     due: &[u64],
@@ -66,14 +66,9 @@ fn judge_times(
     ensures { λ r. ⌜ ((ρ : Run) (τs : List Task) (n : ℕ) (is js : List ℕ)
         → Lent ρ setting τs n is js (now (release .entry)) (now (start .entry)) (now (end .entry)) (now (core .entry))
         → now (due .entry) ≡ duesFrom τs is js 0 (length is)
-        → fiveOf r ≡ verdictFrom 6 ρ) ⌝ }
+        → fiveOf r ≡ verdictFrom 7 ρ) ⌝ }
 {
-    let overlap = overlap_place(start, end, core);
-    let overtaking = order_place(due, release, start);
-    if let FoundTwo::At(a, b) = overlap {
-        return Answer::RuleBroken(6, a, b, 0);
-    }
-    if let FoundTwo::At(a, b) = overtaking {
+    if let FoundTwo::At(a, b) = order_place(due, release, start) {
         return Answer::RuleBroken(7, a, b, 0);
     }
     if let FoundThree::At(a, t, c) = idle_place(setting.cores, release, start, end, core) {
@@ -82,7 +77,7 @@ fn judge_times(
     timely(setting.horizon, due, start, end)
 }
 
-// The deadlines, and with them the rest once 1 to 5 hold.
+// The deadlines, and with them the rest once 1 to 6 hold.
 fn judge_dues(
     setting: Setting,
     tasks: Tasks,
@@ -102,7 +97,7 @@ fn judge_dues(
         × (length (now task) ≤ 512) ⌝ }
     ensures { λ r. ⌜ ((ρ : Run) (n : ℕ)
         → Lent ρ setting (tasks .list) n (now (task .entry)) (now (job .entry)) (now (release .entry)) (now (start .entry)) (now (end .entry)) (now (core .entry))
-        → fiveOf r ≡ verdictFrom 6 ρ) ⌝ }
+        → fiveOf r ≡ verdictFrom 7 ρ) ⌝ }
 {
     let mut space = [0u64; 512];
     let due = &mut space[..task.len()];
@@ -143,11 +138,16 @@ pub fn judge_run(
     if let Found::At(k) = start_place(release, start) {
         return Answer::RuleBroken(3, k, 0, 0);
     }
-    if let Found::At(k) = length_place(tasks, task, start, end) {
+    let wrong_length = length_place(tasks, task, start, end);
+    let no_core = core_place(setting.cores, core);
+    if let Found::At(k) = wrong_length {
         return Answer::RuleBroken(4, k, 0, 0);
     }
-    if let Found::At(k) = core_place(setting.cores, core) {
+    if let Found::At(k) = no_core {
         return Answer::RuleBroken(5, k, 0, 0);
+    }
+    if let FoundTwo::At(a, b) = overlap_place(start, end, core) {
+        return Answer::RuleBroken(6, a, b, 0);
     }
     judge_dues(setting, tasks, task, job, release, start, end, core)
 }

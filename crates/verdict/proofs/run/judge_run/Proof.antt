@@ -1,17 +1,17 @@
--- Rules 1 to 5 in order, and then the rest. Assumes nothing.
+-- Rules 1 to 6 in order, and then the rest. Assumes nothing.
 use Prim.Native.Nat.{ℕ}
 use mathlib.Core.Path.{_≡_, sym, _∙_, ap}
 use mathlib.Core.Option.{Option·map}
 use native.Mathlib.Omega.{arith}
 use lib.ListN.{length, length-map}
-use Rattle.base.specs.Find.{seen}
+use Rattle.base.specs.Find.{seen, seenTwo}
 use Rattle.model.specs.Model.{Run}
-use Rattle.model.specs.Compute.Places.{one}
+use Rattle.model.specs.Compute.Places.{one, two}
 use Rattle.model.specs.Compute.Verdict.{verdict}
 use Rattle.verdict.specs.From.{verdictFrom}
 use Rattle.verdict.specs.Lent.{Lent}
 use Rattle.verdict.proofs.From.{verdict-first, broken, passed}
-use Rattle.verdict.proofs.Tied.{release-lent, start-lent, length-lent, core-lent}
+use Rattle.verdict.proofs.Tied.{release-lent, start-lent, length-lent, core-lent, overlap-lent}
 use borrow.Author.Needs.{needs}
 use Rattle.verdict.proofs.run.judge_run.Statement.{statement}
 use Rattle.verdict.proofs.run.judge_run.Tie as tie
@@ -46,11 +46,14 @@ past-2 c ρ L = past-1 (c .before .before .before) ρ L ∙ passed ρ one 2 (ome
 past-3 : (c : tie.After-enum-told3) → Past (c .before .before .before .before .before .before .before .before .before .before .before .before .before .before .before) 4
 past-3 c ρ L = past-2 (c .before .before .before) ρ L ∙ passed ρ one 3 (omega arith) (ap (Option·map one) (c .before .before .start-place .ensures) ∙ start-lent L) (ap seen (c .enum-told3 .given .1))
 
-past-4 : (c : tie.After-enum-told4) → Past (c .before .before .before .before .before .before .before .before .before .before .before .before .before .before .before .before .before .before) 5
-past-4 c ρ L = past-3 (c .before .before .before) ρ L ∙ passed ρ one 4 (omega arith) (ap (Option·map one) (c .before .before .length-place .ensures) ∙ length-lent L) (ap seen (c .enum-told4 .given .1))
+past-4 : (c : tie.After-enum-told4) → Past (c .before .before .before .before .before .before .before .before .before .before .before .before .before .before .before .before .before .before .before) 5
+past-4 c ρ L = past-3 (c .before .before .before .before) ρ L ∙ passed ρ one 4 (omega arith) (ap (Option·map one) (c .before .before .before .length-place .ensures) ∙ length-lent L) (ap seen (c .enum-told4 .given .1))
 
 past-5 : (c : tie.After-enum-told5) → Past (c .before .before .before .before .before .before .before .before .before .before .before .before .before .before .before .before .before .before .before .before .before) 6
-past-5 c ρ L = past-4 (c .before .before .before) ρ L ∙ passed ρ one 5 (omega arith) (ap (Option·map one) (c .before .before .core-place .ensures) ∙ core-lent L) (ap seen (c .enum-told5 .given .1))
+past-5 c ρ L = past-4 (c .before .before) ρ L ∙ passed ρ one 5 (omega arith) (ap (Option·map one) (c .before .before .before .before .core-place .ensures) ∙ core-lent L) (ap seen (c .enum-told5 .given .1))
+
+past-6 : (c : tie.After-enum-told6) → Past (c .before .before .before .before .before .before .before .before .before .before .before .before .before .before .before .before .before .before .before .before .before .before .before .before) 7
+past-6 c ρ L = past-5 (c .before .before .before) ρ L ∙ passed ρ two 6 (omega arith) (ap (Option·map two) (c .before .before .overlap-place .ensures) ∙ overlap-lent L) (ap seenTwo (c .enum-told6 .given .1))
 
 -- what is told of the tasks: the array has 32
 whole : (s : tie.Start) → length (s .args .tasks .list) ≡ 32
@@ -87,36 +90,50 @@ enum-told-3 c = search needs
 length-place-requires : tie.Need-length-place-requires
 length-place-requires c κs = (whole (c .before .before .before .before .before .before .before .before .before .before .before .before .before .before .before), search needs, search needs, search needs)
 
-enum-known-k-4 : tie.Need-enum-known-k-4
-enum-known-k-4 c = search needs
+core-place-requires : tie.Need-core-place-requires
+core-place-requires c κs = search needs
+
+enum-known-wrong-length : tie.Need-enum-known-wrong-length
+enum-known-wrong-length c = search needs
 
 returns-4 : tie.Need-returns-4
 returns-4 c ρ L =
-    broken ρ one 4 (omega arith) (ap (Option·map one) (c .before .before .before .length-place .ensures) ∙ length-lent L) (ap seen (c .before .k4 .given .1))
-    ∙ sym (past-3 (c .before .before .before .before) ρ L)
+    broken ρ one 4 (omega arith) (ap (Option·map one) (c .before .before .before .before .length-place .ensures) ∙ length-lent L) (ap seen (c .before .wrong-length .given .1))
+    ∙ sym (past-3 (c .before .before .before .before .before) ρ L)
 
 enum-told-4 : tie.Need-enum-told-4
 enum-told-4 c = search needs
 
-core-place-requires : tie.Need-core-place-requires
-core-place-requires c κs = search needs
-
-enum-known-k-5 : tie.Need-enum-known-k-5
-enum-known-k-5 c = search needs
+enum-known-no-core : tie.Need-enum-known-no-core
+enum-known-no-core c = search needs
 
 returns-5 : tie.Need-returns-5
 returns-5 c ρ L =
-    broken ρ one 5 (omega arith) (ap (Option·map one) (c .before .before .before .core-place .ensures) ∙ core-lent L) (ap seen (c .before .k5 .given .1))
-    ∙ sym (past-4 (c .before .before .before .before) ρ L)
+    broken ρ one 5 (omega arith) (ap (Option·map one) (c .before .before .before .before .before .core-place .ensures) ∙ core-lent L) (ap seen (c .before .no-core .given .1))
+    ∙ sym (past-4 (c .before .before .before) ρ L)
 
 enum-told-5 : tie.Need-enum-told-5
 enum-told-5 c = search needs
 
-judge-dues-requires : tie.Need-judge-dues-requires
-judge-dues-requires c κs = search needs
+overlap-place-requires : tie.Need-overlap-place-requires
+overlap-place-requires c κs = search needs
+
+enum-known-a : tie.Need-enum-known-a
+enum-known-a c = search needs
 
 returns-6 : tie.Need-returns-6
-returns-6 c ρ L = c .judge-dues .ensures ρ _ L ∙ sym (past-5 (c .before) ρ L)
+returns-6 c ρ L =
+    broken ρ two 6 (omega arith) (ap (Option·map two) (c .before .before .before .overlap-place .ensures) ∙ overlap-lent L) (ap seenTwo (c .before .a .given .1))
+    ∙ sym (past-5 (c .before .before .before .before) ρ L)
+
+enum-told-6 : tie.Need-enum-told-6
+enum-told-6 c = search needs
+
+judge-dues-requires : tie.Need-judge-dues-requires
+judge-dues-requires c κs = let p = c .before .before .before .before .before .before .before .before .before .before .before .before .before .before .before .before .before .before .before .before .before .before .before .before .pre in (p .0, p .3, p .4, p .5, p .6, p .7, p .8)
+
+returns-7 : tie.Need-returns-7
+returns-7 c ρ L = c .judge-dues .ensures ρ _ L ∙ sym (past-6 (c .before) ρ L)
 
 pub judge-run-spec : {M : Type 1} → statement M
 judge-run-spec =
@@ -135,12 +152,16 @@ judge-run-spec =
     returns-3
     enum-told-3
     length-place-requires
-    enum-known-k-4
+    core-place-requires
+    enum-known-wrong-length
     returns-4
     enum-told-4
-    core-place-requires
-    enum-known-k-5
+    enum-known-no-core
     returns-5
     enum-told-5
+    overlap-place-requires
+    enum-known-a
+    returns-6
+    enum-told-6
     judge-dues-requires
-    returns-6)
+    returns-7)

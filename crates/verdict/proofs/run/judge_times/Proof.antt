@@ -1,4 +1,4 @@
--- Rules 6 to 8 in order, and then the late records. Assumes nothing.
+-- Rules 7 and 8 in order, and then the late records. Assumes nothing.
 use Prim.Native.Nat.{ℕ}
 use mathlib.Core.Path.{_≡_, sym, _∙_, ap}
 use mathlib.Core.List.{List}
@@ -13,94 +13,69 @@ use Rattle.rules.specs.Columns.{duesFrom}
 use Rattle.verdict.specs.From.{verdictFrom}
 use Rattle.verdict.specs.Lent.{Lent}
 use Rattle.verdict.proofs.From.{verdict-last, broken, passed}
-use Rattle.verdict.proofs.Tied.{overlap-lent, order-lent, idle-lent, timely-lent}
+use Rattle.verdict.proofs.Tied.{order-lent, idle-lent, timely-lent}
 use borrow.Author.Needs.{needs}
 use Rattle.verdict.proofs.run.judge_times.Statement.{statement}
 use Rattle.verdict.proofs.run.judge_times.Tie as tie
 
-overlap-place-requires : tie.Need-overlap-place-requires
-overlap-place-requires c κs = search needs
-
 order-place-requires : tie.Need-order-place-requires
 order-place-requires c κs = search needs
-
-enum-known-overlap : tie.Need-enum-known-overlap
-enum-known-overlap c = search needs
-
-returns : tie.Need-returns
-returns c ρ τs n is js L D =
-    broken ρ two 6 (omega arith) (ap (Option·map two) (c .before .before .before .before .overlap-place .ensures) ∙ overlap-lent L) (ap seenTwo (c .before .overlap .given .1))
-
-enum-told : tie.Need-enum-told
-enum-told c = search needs
-
--- the rules below the next one hold
-abbrev Past : tie.Start → ℕ → Type 0
-Past s ν =
-    (ρ : Run) (τs : List Task) (n : ℕ) (is js : List ℕ)
-    → Lent ρ (s .args .setting) τs n is js (s .args .release .now) (s .args .start .now) (s .args .end .now) (s .args .core .now)
-    → s .args .due .now ≡ duesFrom τs is js 0 (length is)
-    → verdictFrom 6 ρ ≡ verdictFrom ν ρ
-
-past-6 : (c : tie.After-enum-told) → Past (c .before .before .before .before .before .before .before .before .before) 7
-past-6 c ρ τs n is js L D =
-    passed ρ two 6 (omega arith) (ap (Option·map two) (c .before .before .before .overlap-place .ensures) ∙ overlap-lent L) (ap seenTwo (c .enum-told .given .1))
-
-past-7 : (c : tie.After-enum-told2) → Past (c .before .before .before .before .before .before .before .before .before .before .before) 8
-past-7 c ρ τs n is js L D =
-    past-6 (c .before .before) ρ τs n is js L D
-    ∙ passed ρ two 7 (omega arith) (ap (Option·map two) (c .before .before .before .before .order-place .ensures) ∙ order-lent L D) (ap seenTwo (c .enum-told2 .given .1))
-
-enum-known-overtaking : tie.Need-enum-known-overtaking
-enum-known-overtaking c = search needs
-
-returns-2 : tie.Need-returns-2
-returns-2 c ρ τs n is js L D =
-    broken ρ two 7 (omega arith) (ap (Option·map two) (c .before .before .before .before .before .order-place .ensures) ∙ order-lent L D) (ap seenTwo (c .before .overtaking .given .1))
-    ∙ sym (past-6 (c .before .before .before) ρ τs n is js L D)
-
-enum-told-2 : tie.Need-enum-told-2
-enum-told-2 c = search needs
-
-idle-place-requires : tie.Need-idle-place-requires
-idle-place-requires c κs = search needs
 
 enum-known-a : tie.Need-enum-known-a
 enum-known-a c = search needs
 
-returns-3 : tie.Need-returns-3
-returns-3 c ρ τs n is js L D =
-    broken ρ three 8 (omega arith) (ap (Option·map three) (c .before .before .before .idle-place .ensures) ∙ idle-lent L) (ap seenThree (c .before .a .given .1))
+returns : tie.Need-returns
+returns c ρ τs n is js L D =
+    broken ρ two 7 (omega arith) (ap (Option·map two) (c .before .before .before .order-place .ensures) ∙ order-lent L D) (ap seenTwo (c .before .a .given .1))
+
+enum-told : tie.Need-enum-told
+enum-told c = search needs
+
+-- rule 7 holds
+past-7 : (c : tie.After-enum-told) →
+    let s = c .before .before .before .before .before .before .before .before in
+    (ρ : Run) (τs : List Task) (n : ℕ) (is js : List ℕ)
+    → Lent ρ (s .args .setting) τs n is js (s .args .release .now) (s .args .start .now) (s .args .end .now) (s .args .core .now)
+    → s .args .due .now ≡ duesFrom τs is js 0 (length is)
+    → verdictFrom 7 ρ ≡ verdictFrom 8 ρ
+past-7 c ρ τs n is js L D =
+    passed ρ two 7 (omega arith) (ap (Option·map two) (c .before .before .order-place .ensures) ∙ order-lent L D) (ap seenTwo (c .enum-told .given .1))
+
+idle-place-requires : tie.Need-idle-place-requires
+idle-place-requires c κs = search needs
+
+enum-known-a-2 : tie.Need-enum-known-a-2
+enum-known-a-2 c = search needs
+
+returns-2 : tie.Need-returns-2
+returns-2 c ρ τs n is js L D =
+    broken ρ three 8 (omega arith) (ap (Option·map three) (c .before .before .before .idle-place .ensures) ∙ idle-lent L) (ap seenThree (c .before .a2 .given .1))
     ∙ sym (past-7 (c .before .before .before .before) ρ τs n is js L D)
 
-enum-told-3 : tie.Need-enum-told-3
-enum-told-3 c = search needs
+enum-told-2 : tie.Need-enum-told-2
+enum-told-2 c = search needs
 
 timely-requires : tie.Need-timely-requires
 timely-requires c κs = search needs
 
-returns-4 : tie.Need-returns-4
-returns-4 c ρ τs n is js L D =
-    let four = c .before in
+returns-3 : tie.Need-returns-3
+returns-3 c ρ τs n is js L D =
+    let last = c .before in
     c .timely .ensures ∙ timely-lent L D ∙ sym (verdict-last ρ)
-    ∙ sym (passed ρ three 8 (omega arith) (ap (Option·map three) (four .before .before .idle-place .ensures) ∙ idle-lent L) (ap seenThree (four .enum-told3 .given .1)))
-    ∙ sym (past-7 (four .before .before .before) ρ τs n is js L D)
+    ∙ sym (passed ρ three 8 (omega arith) (ap (Option·map three) (last .before .before .idle-place .ensures) ∙ idle-lent L) (ap seenThree (last .enum-told2 .given .1)))
+    ∙ sym (past-7 (last .before .before .before) ρ τs n is js L D)
 
 pub judge-times-spec : {M : Type 1} → statement M
 judge-times-spec =
     tie.close
     (tie.spec
-    overlap-place-requires
     order-place-requires
-    enum-known-overlap
+    enum-known-a
     returns
     enum-told
-    enum-known-overtaking
+    idle-place-requires
+    enum-known-a-2
     returns-2
     enum-told-2
-    idle-place-requires
-    enum-known-a
-    returns-3
-    enum-told-3
     timely-requires
-    returns-4)
+    returns-3)
