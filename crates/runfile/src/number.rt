@@ -13,7 +13,7 @@ fn byte_at(s: &[u8], at: usize) -> u32
 // Four bytes as a number, low byte first.
 fn low_first(a: u32, b: u32, c: u32, d: u32) -> u32
     requires { ⌜ (a < 256) × (b < 256) × (c < 256) × (d < 256) ⌝ }
-    ensures { λ r. ⌜ r ≡ a + 256 * b + 65536 * c + 16777216 * d ⌝ }
+    ensures { λ r. ⌜ r ≡ a + 256 * (b + 256 * (c + 256 * d)) ⌝ }
 {
     a + 256 * b + 65536 * c + 16777216 * d
 }
