@@ -6,16 +6,9 @@
 #include <stdint.h>
 
 #include "chance.h"
+#include "entries.h"
 
-enum { MOST_CORES = 16, MOST_TASKS = 32, MOST_JOBS = 512, MOST_TICKS = 1000000, SPARE_RECORDS = 8 };
-
-typedef struct {
-    uint32_t period, least, greatest, offset, jitter;
-} Task;
-
-typedef struct {
-    uint32_t task, job, release, start, end, core;
-} Record;
+enum { SPARE_RECORDS = 8 };
 
 /* A run has room for a few records more than are allowed, so that too many can be written. */
 typedef struct {

@@ -1,0 +1,17 @@
+/* The entries of a run file and the paper's limits, for the checker and for what makes its cases. */
+#ifndef OCTALMURE_ENTRIES_H
+#define OCTALMURE_ENTRIES_H
+
+#include <stdint.h>
+
+enum { MOST_CORES = 16, MOST_TASKS = 32, MOST_JOBS = 512, MOST_TICKS = 1000000 };
+
+typedef struct {
+    uint32_t period, least, greatest, offset, jitter;
+} Task;
+
+typedef struct {
+    uint32_t task, job, release, start, end, core;
+} Record;
+
+#endif
