@@ -10,6 +10,7 @@ ghost use lib.ListN.{length};
 ghost use Rattle.base.specs.Find.{seen, first};
 ghost use Rattle.model.specs.Model.{task as taskOf};
 ghost use Rattle.rules.specs.Columns.{releasedBy, lastedBy, releasedIn, lastedIn, startedIn, onCore, duesFrom};
+ghost use Rattle.rules.specs.Asked.{obeyedBy, obeyedIn};
 
 // The task of zeros.
 const NO_TASK: Task = Task {
@@ -61,11 +62,26 @@ fn lasted(task: Task, start: u32, end: u32) -> bool
     true
 }
 
-// Rule 2. Release.
-pub fn release_place(tasks: Tasks, task: &[u32], job: &[u32], release: &[u32]) -> Found
-    requires { ⌜ (length (tasks .list) ≡ 32) × (length (now job) ≡ length (now task)) × (length (now release) ≡ length (now task)) × (length (now task) ≤ 512) ⌝ }
+// What a rule asks of a record by its task and two of its numbers.
+enum Asks {
+    Released,
+    Lasted,
+}
+
+fn obeyed(asks: Asks, task: Task, a: u32, b: u32) -> bool
+    ensures { λ r. ⌜ r ≡ obeyedBy asks task a b ⌝ }
+{
+    match asks {
+        Asks::Released => released(task, a, b),
+        Asks::Lasted => lasted(task, a, b),
+    }
+}
+
+// The least record that does not do as it is asked.
+fn task_place(asks: Asks, tasks: Tasks, task: &[u32], a: &[u32], b: &[u32]) -> Found
+    requires { ⌜ (length (tasks .list) ≡ 32) × (length (now a) ≡ length (now task)) × (length (now b) ≡ length (now task)) × (length (now task) ≤ 512) ⌝ }
     ensures { λ r. ⌜ seen r
-        ≡ first (λ k. not (releasedIn (tasks .list) (now (task .entry)) (now (job .entry)) (now (release .entry)) k)) 0 (length (now (task .entry))) ⌝ }
+        ≡ first (λ k. not (obeyedIn asks (tasks .list) (now (task .entry)) (now (a .entry)) (now (b .entry)) k)) 0 (length (now (task .entry))) ⌝ }
 {
     let mut k = 0;
     while k < task.len() {
@@ -74,12 +90,21 @@ pub fn release_place(tasks: Tasks, task: &[u32], job: &[u32], release: &[u32]) -
         if i < Tasks::MOST {
             t = tasks.list[i as usize];
         }
-        if !released(t, job[k], release[k]) {
+        if !obeyed(asks, t, a[k], b[k]) {
             return Found::At(k as u32);
         }
         k += 1;
     }
     Found::Nothing
+}
+
+// Rule 2. Release.
+pub fn release_place(tasks: Tasks, task: &[u32], job: &[u32], release: &[u32]) -> Found
+    requires { ⌜ (length (tasks .list) ≡ 32) × (length (now job) ≡ length (now task)) × (length (now release) ≡ length (now task)) × (length (now task) ≤ 512) ⌝ }
+    ensures { λ r. ⌜ seen r
+        ≡ first (λ k. not (releasedIn (tasks .list) (now (task .entry)) (now (job .entry)) (now (release .entry)) k)) 0 (length (now (task .entry))) ⌝ }
+{
+    task_place(Asks::Released, tasks, task, job, release)
 }
 
 // Rule 3. Start.
@@ -103,19 +128,7 @@ pub fn length_place(tasks: Tasks, task: &[u32], start: &[u32], end: &[u32]) -> F
     ensures { λ r. ⌜ seen r
         ≡ first (λ k. not (lastedIn (tasks .list) (now (task .entry)) (now (start .entry)) (now (end .entry)) k)) 0 (length (now (task .entry))) ⌝ }
 {
-    let mut k = 0;
-    while k < task.len() {
-        let i = task[k];
-        let mut t = NO_TASK;
-        if i < Tasks::MOST {
-            t = tasks.list[i as usize];
-        }
-        if !lasted(t, start[k], end[k]) {
-            return Found::At(k as u32);
-        }
-        k += 1;
-    }
-    Found::Nothing
+    task_place(Asks::Lasted, tasks, task, start, end)
 }
 
 // Rule 5. Core.
