@@ -1,25 +1,22 @@
 -- What the carry of a file says and writes, by what is read of it. Assumes nothing.
-use Prim.Native.Nat.{ℕ, _+_, _-_, _≤_, _<_}
+use Prim.Native.Nat.{ℕ, _≤_, _<_}
 use mathlib.Core.Path.{_≡_, refl, sym, subst, _∙_, ap}
 use mathlib.Core.Bool.{Bool, true, false, not, _&&_, true≢false}
-use mathlib.Core.List.{List, [], _++_}
+use mathlib.Core.List.{List, []}
 use mathlib.Core.Option.{Option, none, some}
 use native.Mathlib.Omega.{arith}
 use lib.Dec.{leb}
-use lib.ListN.{length, replicate, take}
-use lib.Seq.{take-at}
+use lib.ListN.{length}
 use Rattle.base.proofs.Find.{some≢none}
 use Rattle.base.proofs.Test.{Says, says-leb, says-and, says-not, says-true, says-false}
-use Rattle.model.specs.declared.task.Task.{Task}
-use Rattle.model.specs.Model.{Run, noTask, mostHorizon, mostJobs, totalJobs}
-use Rattle.model.specs.File.{Read, refused, whole, read, refusalOf, num, settingAt, taskAt, tasksIn, tasksPlace, taskSize}
+use Rattle.model.specs.Model.{Run, mostHorizon, mostJobs, totalJobs}
+use Rattle.model.specs.File.{Read, refused, whole, read, refusalOf, num, settingAt, tasksIn, tasksPlace}
 use Rattle.model.specs.Answers.{Five, refusal}
 use Rattle.model.specs.Calls.{front}
 use Rattle.model.specs.Carry.{Carried, carryRun, carryOf, carry}
-use Rattle.model.proofs.Reading.{length-entries}
 use Rattle.carrying.proofs.Gates.{gate-opens, gate-closes}
 use Rattle.carrier.specs.Told.{Carries}
-use Rattle.checker.proofs.Whole.{told-whole, is-setting, is-tasks}
+use Rattle.lending.proofs.Whole.{told-whole, is-setting, is-tasks}
 
 granted : (b : Bool) → not b ≡ false → b ≡ true
 granted true e = refl
@@ -89,10 +86,3 @@ too-many m e = let h = says-not (says-leb m mostJobs) .sound e in omega (arith, 
 
 pub few-enough : (m : ℕ) → not (leb m mostJobs) ≡ false → m ≤ mostJobs
 few-enough m e = says-leb m mostJobs .sound (granted (leb m mostJobs) e)
-
--- the jobs of the tasks that were read
-pub total-read : (b : List ℕ) (τs : List Task) (k H′ : ℕ) → τs ≡ tasksIn b k ++ replicate (32 - k) noTask → k ≡ num b tasksPlace
-    → totalJobs (tasksIn b (num b tasksPlace)) H′ ≡ totalJobs (take k τs) H′
-total-read b τs k H′ pτ pk =
-    ap (λ us. totalJobs us H′)
-    (ap (tasksIn b) (sym pk) ∙ sym (ap (take k) pτ ∙ take-at (tasksIn b k) (replicate (32 - k) noTask) k (length-entries (taskAt b) taskSize (tasksPlace + 4) k)))

@@ -2,12 +2,10 @@
 use carry::carry_run;
 use judging::refusal_in;
 use judging::total_jobs;
-use lent::tasks_of;
+use lending::lend_run;
 use model::Answer;
 use model::Setting;
-use runfile::read_records;
 use runfile::record_count;
-use runfile::records_place;
 use runfile::setting_of;
 use runfile::task_count;
 ghost use mathlib.Core.Bool.{_&&_};
@@ -42,15 +40,12 @@ fn carry_columns(
         × (length (now core) ≡ length (now task)) ⌝ }
     ensures { λ r. ⌜ Carries (now (file .entry)) horizon (now (output .entry)) (fiveOf r) (now (output .exit)) ⌝ }
 {
-    let setting = setting_of(file);
-    let n = task_count(file);
-    let tasks = tasks_of(file);
-    let at = records_place(n) + 4;
-    read_records(file, at, task.len(), task, job, release, start, end, core);
+    let told = lend_run(file, task, job, release, start, end, core);
+    let tasks = told.tasks;
     carry_run(
-        setting,
+        told.setting,
         tasks,
-        n,
+        told.count,
         horizon,
         m,
         task,

@@ -1,14 +1,13 @@
 -- The columns of a carry, over those that are lent of a run and two with the jobs that exist at H'. Assumes nothing.
-use Prim.Native.Nat.{ℕ, _+_, _*_, _-_, _≤_, _<_}
+use Prim.Native.Nat.{ℕ, _+_, _*_, _≤_, _<_}
 use mathlib.Core.Path.{_≡_, refl, sym, _∙_, ap}
 use mathlib.Core.List.{List, _++_, map, map-id}
 use native.Mathlib.Omega.{arith}
-use lib.ListN.{length, take, getD, length-map, length-append, length-replicate}
-use lib.Seq.{take-at}
+use lib.ListN.{length, take, getD, length-map}
 use Rattle.model.specs.declared.setting.Setting.{Setting}
 use Rattle.model.specs.declared.task.Task.{Task}
 use Rattle.model.specs.declared.record.Record.{Record}
-use Rattle.model.specs.Model.{Run, Job, mostTime, mostJobs, noTask, noRecord, task, rec, jobs, totalJobs, arrival, rank, ready}
+use Rattle.model.specs.Model.{Run, Job, mostTime, mostJobs, noRecord, task, rec, jobs, totalJobs, arrival, rank, ready}
 use Rattle.model.specs.Rules.{Obeys}
 use Rattle.model.specs.File.{bytes}
 use Rattle.model.specs.Carry.{atH, opening, carried}
@@ -25,6 +24,7 @@ use Rattle.rules.proofs.Fill.{jobs-front}
 use Rattle.rules.proofs.Tied.{jobs-of, number-at, due-tied}
 use Rattle.verdict.specs.Lent.{Lent}
 use Rattle.verdict.proofs.Tied.{task-same}
+use Rattle.verdict.proofs.OfLent.{tasks-lent}
 use Rattle.starts.specs.Columns.{Stands}
 
 -- the jobs that exist, where they are put to the front of a column
@@ -33,23 +33,9 @@ pub front-jobs : (f : Job → ℕ) (τs : List Task) (H : ℕ) (rest : List ℕ)
 front-jobs f τs H rest e w = (λ κ. take (e κ) (w κ)) ∙ jobs-front f τs H rest
 
 module _ {ρ : Run} {σ : Setting} {τs : List Task} {n : ℕ} {is js rs ss es cs : List ℕ} (l : Lent ρ σ τs n is js rs ss es cs) where
-  pub tasks-lent : take n τs ≡ ρ .tasks
-  tasks-lent = ap (take n) (l .tasks) ∙ take-at (ρ .tasks) _ n (sym (l .count))
-
-  pub whole : length τs ≡ 32
-  whole =
-      let k = l .limits .task-count .1 in
-      ap length (l .tasks) ∙ length-append (ρ .tasks) _ ∙ ap (λ k. length (ρ .tasks) + k) (length-replicate (32 - length (ρ .tasks)) noTask) ∙ omega (arith, k)
-
-  pub few-lent : totalJobs (take n τs) (σ .horizon) ≤ 512
-  few-lent = rw (tasks-lent, l .setting) (l .limits .job-count)
-
-  pub cores-lent : (1 ≤ σ .cores) × (σ .cores ≤ 16)
-  cores-lent = rw (l .setting) (l .limits .setting .cores)
-
   module _ (H′ : ℕ) where
     pub total-lent : totalJobs (take n τs) H′ ≡ totalJobs (ρ .tasks) H′
-    total-lent = ap (λ ts. totalJobs ts H′) tasks-lent
+    total-lent = ap (λ ts. totalJobs ts H′) (tasks-lent l)
 
     module _ (O : Obeys ρ) (longer : σ .horizon ≤ H′) (most : H′ ≤ 1000000) (few : totalJobs (take n τs) H′ ≤ 512) where
       abbrev longer-run : ρ .setting .horizon ≤ H′
@@ -69,7 +55,7 @@ module _ {ρ : Run} {σ : Setting} {τs : List Task} {n : ℕ} {is js rs ss es c
       setting-stays = rw (l .setting) (carried-setting ρ H′ (l .limits) O longer-run most few-run)
 
       pub tasks-stay : carried ρ H′ .tasks ≡ take n τs
-      tasks-stay = carried-tasks ρ H′ (l .limits) O longer-run most few-run ∙ sym tasks-lent
+      tasks-stay = carried-tasks ρ H′ (l .limits) O longer-run most few-run ∙ sym (tasks-lent l)
 
       -- the size of the file
       pub size : length (bytes (carried ρ H′)) ≡ 20 + 20 * n + 24 * totalJobs (take n τs) H′
@@ -89,13 +75,13 @@ module _ {ρ : Run} {σ : Setting} {τs : List Task} {n : ℕ} {is js rs ss es c
         (λ κ. jobsOf (w κ) (v κ))
         ∙ jobs-of (λ (q : Job). q .0) (λ (q : Job). q .1) (jobs (take n τs) H′)
         ∙ map-id (jobs (take n τs) H′)
-        ∙ ap (λ ts. jobs ts H′) tasks-lent
+        ∙ ap (λ ts. jobs ts H′) (tasks-lent l)
 
     whose : ws ≡ map (λ (q : Job). q .0) (jobs (ρ .tasks) H′)
-    whose = w ∙ ap (λ ts. map (λ (q : Job). q .0) (jobs ts H′)) tasks-lent
+    whose = w ∙ ap (λ ts. map (λ (q : Job). q .0) (jobs ts H′)) (tasks-lent l)
 
     which : ns ≡ map (λ (q : Job). q .1) (jobs (ρ .tasks) H′)
-    which = v ∙ ap (λ ts. map (λ (q : Job). q .1) (jobs ts H′)) tasks-lent
+    which = v ∙ ap (λ ts. map (λ (q : Job). q .1) (jobs ts H′)) (tasks-lent l)
 
     opened-task : ws ≡ map (λ (x : Record). x .task) (opening ρ H′ .records)
     opened-task = whose ∙ sym (opening-task ρ H′)

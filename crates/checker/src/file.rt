@@ -1,12 +1,8 @@
 // The five numbers of a file.
 use judging::refusal_in;
-use lent::tasks_of;
+use lending::lend_run;
 use model::Answer;
-use runfile::read_records;
 use runfile::record_count;
-use runfile::records_place;
-use runfile::setting_of;
-use runfile::task_count;
 use verdict::judge_run;
 ghost use mathlib.Core.Path.{_≡_};
 ghost use mathlib.Core.Option.{none};
@@ -15,7 +11,7 @@ ghost use Rattle.model.specs.Answers.{fiveOf};
 ghost use Rattle.model.specs.Compute.Verdict.{check};
 ghost use Rattle.model.specs.File.{num, read, recordsPlace, refusalOf, tasksPlace};
 
-// The answer of a file that is not refused, with columns as long as it has records: each number is read once, into them.
+// The answer of a file that is not refused, with columns as long as it has records.
 fn check_columns(
     file: &[u8],
     task: &mut [u32],
@@ -34,12 +30,19 @@ fn check_columns(
         × (length (now core) ≡ length (now task)) ⌝ }
     ensures { λ r. ⌜ fiveOf r ≡ check (now (file .entry)) ⌝ }
 {
-    let setting = setting_of(file);
-    let n = task_count(file);
-    let tasks = tasks_of(file);
-    let at = records_place(n) + 4;
-    read_records(file, at, task.len(), task, job, release, start, end, core);
-    judge_run(setting, tasks, n, task, job, release, start, end, core)
+    let told = lend_run(file, task, job, release, start, end, core);
+    let tasks = told.tasks;
+    judge_run(
+        told.setting,
+        tasks,
+        told.count,
+        task,
+        job,
+        release,
+        start,
+        end,
+        core,
+    )
 }
 
 // The answer of a file that is not refused.

@@ -3,3 +3,4 @@ pub mod Lateness
 pub mod Same
 pub mod Tied
 pub mod Once
+pub mod OfLent

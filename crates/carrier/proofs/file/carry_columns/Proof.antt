@@ -1,15 +1,13 @@
--- The columns that were read are those of the run that the file tells. Assumes nothing.
-use Prim.Native.Nat.{_+_, _-_, _≤_}
-use mathlib.Core.Path.{_≡_, refl, sym, subst, _∙_}
-use mathlib.Core.List.{_++_}
-use native.Mathlib.Omega.{arith}
-use lib.ListN.{length, replicate}
-use denote.Ref.{now}
+-- What is lent is carried, and that is what the carry says of the file and writes. Assumes nothing.
+use Prim.Native.Nat.{_≤_}
+use mathlib.Core.Path.{_≡_, sym, subst, _∙_, ap}
 use borrow.Author.Needs.{needs}
-use Rattle.model.specs.Model.{Run, noTask}
-use Rattle.model.specs.File.{read, whole, num, settingAt, tasksIn, tasksPlace, recordsPlace}
-use Rattle.checker.proofs.Whole.{told-whole, lent-tasks, few-tasks, few-records, records-end, lent}
-use Rattle.carrier.proofs.Told.{tells, carry-is, total-read}
+use denote.Ref.{now}
+use Rattle.model.specs.Model.{Run, totalJobs}
+use Rattle.model.specs.File.{read, whole}
+use Rattle.verdict.proofs.OfLent.{tasks-lent, tasks-few, columns-lent}
+use Rattle.lending.proofs.Whole.{told-whole, is-setting, is-tasks}
+use Rattle.carrier.proofs.Told.{tells, carry-is}
 use Rattle.carrier.proofs.file.carry_columns.Statement.{statement}
 use Rattle.carrier.proofs.file.carry_columns.Tie as tie
 
@@ -17,68 +15,29 @@ use Rattle.carrier.proofs.file.carry_columns.Tie as tie
 run : (s : tie.Start) → (ρ : Run) × (read (now (s .args .file)) ≡ whole ρ)
 run s = told-whole (now (s .args .file)) (s .pre .0 .0)
 
-few : (s : tie.Start) → length (now (s .args .task)) ≤ 512
-few s = let (ρ, e) = run s in omega (arith, few-records _ ρ e, s .pre .1)
-
--- what was read before the columns
-abbrev Values : tie.After-records-place → Type 0
-Values c =
-    let b = now (c .before .before .before .before .before .before .before .before .before .before .before .before .args .file) in
-    let k = c .before .before .task-count .result in
-    (c .before .before .before .setting-of .result ≡ settingAt b 4)
-    × (c .before .tasks-of .result .list ≡ tasksIn b k ++ replicate (32 - k) noTask)
-    × (k ≡ num b tasksPlace)
-    × (c .records-place .result + 4 ≡ recordsPlace (num b tasksPlace) + 4)
-
-values : (c : tie.After-records-place) → Values c
-values c =
-    let k = c .before .before .task-count .ensures in
-    (c .before .before .before .setting-of .ensures, lent-tasks _ _ (c .before .before .before .before .before .before .before .before .before .before .before .before .pre .0 .0) k (c .before .tasks-of .ensures), k, omega (arith, k, c .records-place .ensures))
-
-setting-of-requires : tie.Need-setting-of-requires
-setting-of-requires c κs = search needs
-
-task-count-requires : tie.Need-task-count-requires
-task-count-requires c κs = search needs
-
-tasks-of-requires : tie.Need-tasks-of-requires
-tasks-of-requires c κs = search needs
-
-records-place-requires : tie.Need-records-place-requires
-records-place-requires c κs = search needs
-
-add-at : tie.Need-add-at
-add-at c = search needs
-
-read-records-requires : tie.Need-read-records-requires
-read-records-requires c κs =
-    let s = c .before .before .before .before .before .before .before .before .before .before .before .before .before .before .before .before .before .before in
-    let (ρ, e) = run s in
-    let m = few s in
-    let pa = values (c .before .before .before .before .before .before) .3 in
-    (omega (arith, few-tasks _ ρ e, pa), m, omega (arith, records-end _ ρ e, pa, s .pre .1), search needs, search needs, search needs, search needs, search needs, search needs)
+lend-run-requires : tie.Need-lend-run-requires
+lend-run-requires c κs = search needs
 
 carry-run-requires : tie.Need-carry-run-requires
 carry-run-requires c κs =
-    let s = c .before .before .before .before .before .before .before .before .before .before .before .before .before .before .before .before .before .before .before .before .before .before .before .before .before .before .before .before .before .before .before .before .before .before .before .before .before .before in
-    let b = now (s .args .file) in
+    let s = c .before .before .before .before .before .before .before .before .before .before .before .before .before .before .before .before .before .before .before .before .before .before .before .before .before .before .before .before .before .before .before .before .before .before .before in
+    let H′ = s .args .horizon in
     let (ρ, e) = run s in
-    let (pσ, pτ, pk, pa) = values (c .before .before .before .before .before .before .before .before .before .before .before .before .before .before .before .before .before .before .before .before .before .before .before .before .before .before) in
-    let ((known, longer, most, total, few-m), l, lj, lr, ls, lf, lc) = s .pre in
-    let (i, j, r, t, f, p) = c .before .before .before .before .before .before .before .before .before .before .before .before .before .before .before .before .before .before .before .read-records .ensures in
-    let m = few s in (
-      omega (arith, few-tasks _ ρ e, pk),
+    let l = c .before .before .before .before .before .before .before .before .before .before .before .before .before .before .before .before .before .before .before .before .lend-run .ensures ρ e in
+    let (known, longer, most, total, few-m) = s .pre .0 in
+    let (lj, lr, ls, le, lc, few) = columns-lent l in (
+      tasks-few l,
       few-m,
-      total ∙ total-read b _ _ _ pτ pk,
-      search needs,
-      search needs,
-      search needs,
-      search needs,
-      search needs,
-      search needs,
-      subst (λ u. u .horizon ≤ s .args .horizon) (sym pσ) longer,
+      total ∙ ap (λ ts. totalJobs ts H′) (is-tasks _ ρ e ∙ sym (tasks-lent l)),
+      lj,
+      lr,
+      ls,
+      le,
+      lc,
+      few,
+      subst (λ σ. σ .horizon ≤ H′) (is-setting _ ρ e ∙ sym (l .setting)) longer,
       most,
-      (ρ, lent b ρ e _ _ _ _ _ pσ pτ pk pa l _ _ _ _ _ _ _ _ _ _ _ _ refl lj lr ls lf lc i j r t f p),
+      (ρ, l),
     )
 
 same-length : tie.Need-same-length
@@ -104,24 +63,16 @@ same-length-7 c = search needs
 
 returns : tie.Need-returns
 returns c =
-    let s = c .before .before .before .before .before .before .before .before .before .before .before .before .before .before .before .before .before .before .before .before .before .before .before .before .before .before .before .before .before .before .before .before .before .before .before .before .before .before .before .before .before in
+    let s = c .before .before .before .before .before .before .before .before .before .before .before .before .before .before .before .before .before .before .before .before .before .before .before .before .before .before .before .before .before .before .before .before .before .before .before .before .before .before in
     let b = now (s .args .file) in
     let (ρ, e) = run s in
-    let (pσ, pτ, pk, pa) = values (c .before .before .before .before .before .before .before .before .before .before .before .before .before .before .before .before .before .before .before .before .before .before .before .before .before .before .before .before .before) in
-    let (given, l, lj, lr, ls, lf, lc) = s .pre in
-    let (i, j, r, t, f, p) = c .before .before .before .before .before .before .before .before .before .before .before .before .before .before .before .before .before .before .before .before .before .before .read-records .ensures in
-    tells b _ (now (s .args .output)) _ (carry-is b _ _ ρ e) (c .before .before .carry-run .ensures ρ (lent b ρ e _ _ _ _ _ pσ pτ pk pa l _ _ _ _ _ _ _ _ _ _ _ _ refl lj lr ls lf lc i j r t f p))
+    tells b _ (now (s .args .output)) _ (carry-is b _ _ ρ e) (c .before .before .carry-run .ensures ρ (c .before .before .before .before .before .before .before .before .before .before .before .before .before .before .before .before .before .before .before .before .before .before .before .lend-run .ensures ρ e))
 
 pub carry-columns-spec : {M : Type 1} → statement M
 carry-columns-spec =
     tie.close
     (tie.spec
-    setting-of-requires
-    task-count-requires
-    tasks-of-requires
-    records-place-requires
-    add-at
-    read-records-requires
+    lend-run-requires
     carry-run-requires
     same-length
     same-length-2

@@ -8,7 +8,7 @@ use denote.Ref.{now}
 use Rattle.model.specs.Model.{totalJobs}
 use Rattle.model.specs.File.{num, read, refusalOf, settingAt, tasksIn, tasksPlace}
 use Rattle.judging.proofs.Numbered.{not-refused, is-refused}
-use Rattle.checker.proofs.Whole.{told-whole, few-tasks}
+use Rattle.lending.proofs.Whole.{told-whole, few-tasks}
 use Rattle.carrier.proofs.Told.{tells-refusal, carry-refused, says-9, says-6, horizon-refused, horizon-granted, too-many, few-enough}
 use Rattle.carrier.proofs.file.carry_file.Statement.{statement}
 use Rattle.carrier.proofs.file.carry_file.Tie as tie

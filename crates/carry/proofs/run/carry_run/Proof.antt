@@ -4,7 +4,7 @@ use borrow.Author.Needs.{needs}
 use Rattle.model.specs.Model.{Run}
 use Rattle.model.specs.Rules.{Obeys}
 use Rattle.verdict.specs.Lent.{Lent}
-use Rattle.carry.proofs.Columns.{cores-lent, few-lent}
+use Rattle.verdict.proofs.OfLent.{cores-lent, few-lent}
 use Rattle.carry.proofs.Gates.{rejected, accepted, too-short, has-room, tells, not-accepted, no-room, writes}
 use Rattle.carry.proofs.run.carry_run.Statement.{statement}
 use Rattle.carry.proofs.run.carry_run.Tie as tie

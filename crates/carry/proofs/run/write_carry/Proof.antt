@@ -4,7 +4,8 @@ use native.Mathlib.Omega.{arith}
 use lib.ListN.{take}
 use lib.Seq.{length-take-le}
 use borrow.Author.Needs.{needs}
-use Rattle.carry.proofs.Columns.{front-jobs, whole}
+use Rattle.verdict.proofs.OfLent.{whole}
+use Rattle.carry.proofs.Columns.{front-jobs}
 use Rattle.carry.proofs.run.write_carry.Statement.{statement}
 use Rattle.carry.proofs.run.write_carry.Tie as tie
 

@@ -3,7 +3,8 @@ use mathlib.Core.Path.{refl, ap}
 use native.Mathlib.Omega.{arith}
 use borrow.Author.Needs.{needs}
 use Rattle.model.specs.declared.setting.Setting.{Setting}
-use Rattle.carry.proofs.Columns.{whole, cores-lent, going, greatest, setting-stays, tasks-stay, stands, task-stays, job-stays, release-stays, started, few-jobs, arrives, bounded}
+use Rattle.verdict.proofs.OfLent.{whole, cores-lent}
+use Rattle.carry.proofs.Columns.{going, greatest, setting-stays, tasks-stay, stands, task-stays, job-stays, release-stays, started, few-jobs, arrives, bounded}
 use Rattle.carry.proofs.run.write_columns.Statement.{statement}
 use Rattle.carry.proofs.run.write_columns.Tie as tie
 

@@ -1,14 +1,12 @@
--- The columns that were read are those of the run that the file tells. Assumes nothing.
-use Prim.Native.Nat.{_+_, _-_, _≤_}
-use mathlib.Core.Path.{_≡_, refl, _∙_}
-use mathlib.Core.List.{_++_}
-use native.Mathlib.Omega.{arith}
-use lib.ListN.{length, replicate}
-use denote.Ref.{now}
+-- What is lent is judged, and that is what the check says of the file. Assumes nothing.
+use mathlib.Core.Path.{_≡_, _∙_}
 use borrow.Author.Needs.{needs}
-use Rattle.model.specs.Model.{Run, noTask}
-use Rattle.model.specs.File.{read, whole, num, settingAt, tasksIn, tasksPlace, recordsPlace}
-use Rattle.checker.proofs.Whole.{told-whole, lent-tasks, check-whole, few-tasks, few-records, records-end, few-jobs, few-cores, lent}
+use denote.Ref.{now}
+use Rattle.model.specs.Model.{Run}
+use Rattle.model.specs.File.{read, whole}
+use Rattle.verdict.proofs.OfLent.{tasks-few, few-lent, cores-lent, columns-lent}
+use Rattle.lending.proofs.Whole.{told-whole}
+use Rattle.checker.proofs.Told.{check-whole}
 use Rattle.checker.proofs.file.check_columns.Statement.{statement}
 use Rattle.checker.proofs.file.check_columns.Tie as tie
 
@@ -16,66 +14,15 @@ use Rattle.checker.proofs.file.check_columns.Tie as tie
 run : (s : tie.Start) → (ρ : Run) × (read (now (s .args .file)) ≡ whole ρ)
 run s = told-whole (now (s .args .file)) (s .pre .0)
 
-few : (s : tie.Start) → length (now (s .args .task)) ≤ 512
-few s = let (ρ, e) = run s in omega (arith, few-records _ ρ e, s .pre .1)
-
--- what was read before the columns
-abbrev Values : tie.After-records-place → Type 0
-Values c =
-    let b = now (c .before .before .before .before .before .before .before .before .before .before .before .args .file) in
-    let k = c .before .before .task-count .result in
-    (c .before .before .before .setting-of .result ≡ settingAt b 4)
-    × (c .before .tasks-of .result .list ≡ tasksIn b k ++ replicate (32 - k) noTask)
-    × (k ≡ num b tasksPlace)
-    × (c .records-place .result + 4 ≡ recordsPlace (num b tasksPlace) + 4)
-
-values : (c : tie.After-records-place) → Values c
-values c =
-    let k = c .before .before .task-count .ensures in
-    (c .before .before .before .setting-of .ensures, lent-tasks _ _ (c .before .before .before .before .before .before .before .before .before .before .before .pre .0) k (c .before .tasks-of .ensures), k, omega (arith, k, c .records-place .ensures))
-
-setting-of-requires : tie.Need-setting-of-requires
-setting-of-requires c κs = search needs
-
-task-count-requires : tie.Need-task-count-requires
-task-count-requires c κs = search needs
-
-tasks-of-requires : tie.Need-tasks-of-requires
-tasks-of-requires c κs = search needs
-
-records-place-requires : tie.Need-records-place-requires
-records-place-requires c κs = search needs
-
-add-at : tie.Need-add-at
-add-at c = search needs
-
-read-records-requires : tie.Need-read-records-requires
-read-records-requires c κs =
-    let s = c .before .before .before .before .before .before .before .before .before .before .before .before .before .before .before .before .before in
-    let (ρ, e) = run s in
-    let m = few s in
-    let pa = values (c .before .before .before .before .before .before) .3 in
-    (omega (arith, few-tasks _ ρ e, pa), m, omega (arith, records-end _ ρ e, pa, s .pre .1), search needs, search needs, search needs, search needs, search needs, search needs)
+lend-run-requires : tie.Need-lend-run-requires
+lend-run-requires c κs = search needs
 
 judge-run-requires : tie.Need-judge-run-requires
 judge-run-requires c κs =
-    let s = c .before .before .before .before .before .before .before .before .before .before .before .before .before .before .before .before .before .before .before .before .before .before .before .before .before .before .before .before .before .before .before .before .before .before .before .before in
-    let (ρ, e) = run s in
-    let (pσ, pτ, pk, pa) = values (c .before .before .before .before .before .before .before .before .before .before .before .before .before .before .before .before .before .before .before .before .before .before .before .before .before) in
-    let (known, l, lj, lr, ls, lf, lc) = s .pre in
-    let (i, j, r, t, f, p) = c .before .before .before .before .before .before .before .before .before .before .before .before .before .before .before .before .before .before .read-records .ensures in
-    let m = few s in (
-      few-cores _ ρ e _ _ _ _ _ pσ pτ pk pa (s .pre .1),
-      omega (arith, few-tasks _ ρ e, pk),
-      few-jobs _ ρ e _ _ _ _ _ pσ pτ pk pa (s .pre .1),
-      search needs,
-      search needs,
-      search needs,
-      search needs,
-      search needs,
-      search needs,
-      (ρ, lent (now (s .args .file)) ρ e _ _ _ _ _ pσ pτ pk pa l _ _ _ _ _ _ _ _ _ _ _ _ refl lj lr ls lf lc i j r t f p),
-    )
+    let (ρ, e) = run (c .before .before .before .before .before .before .before .before .before .before .before .before .before .before .before .before .before .before .before .before .before .before .before .before .before .before .before .before .before .before .before .before .before) in
+    let l = c .before .before .before .before .before .before .before .before .before .before .before .before .before .before .before .before .before .before .before .lend-run .ensures ρ e in
+    let (lj, lr, ls, le, lc, few) = columns-lent l in
+    (cores-lent l .1, tasks-few l, few-lent l, lj, lr, ls, le, lc, few, (ρ, l))
 
 same-length : tie.Need-same-length
 same-length c = search needs
@@ -97,24 +44,14 @@ same-length-6 c = search needs
 
 returns : tie.Need-returns
 returns c =
-    let s = c .before .before .before .before .before .before .before .before .before .before .before .before .before .before .before .before .before .before .before .before .before .before .before .before .before .before .before .before .before .before .before .before .before .before .before .before .before in
-    let b = now (s .args .file) in
-    let (ρ, e) = run s in
-    let (pσ, pτ, pk, pa) = values (c .before .before .before .before .before .before .before .before .before .before .before .before .before .before .before .before .before .before .before .before .before .before .before .before .before .before) in
-    let (known, l, lj, lr, ls, lf, lc) = s .pre in
-    let (i, j, r, t, f, p) = c .before .before .before .before .before .before .before .before .before .before .before .before .before .before .before .before .before .before .before .read-records .ensures in
-    c .judge-run .ensures ρ (lent b ρ e _ _ _ _ _ pσ pτ pk pa l _ _ _ _ _ _ _ _ _ _ _ _ refl lj lr ls lf lc i j r t f p) ∙ check-whole b ρ e
+    let (ρ, e) = run (c .before .before .before .before .before .before .before .before .before .before .before .before .before .before .before .before .before .before .before .before .before .before .before .before .before .before .before .before .before .before .before .before .before .before) in
+    c .judge-run .ensures ρ (c .before .before .before .before .before .before .before .before .before .before .before .before .before .before .before .before .before .before .before .before .lend-run .ensures ρ e) ∙ check-whole _ ρ e
 
 pub check-columns-spec : {M : Type 1} → statement M
 check-columns-spec =
     tie.close
     (tie.spec
-    setting-of-requires
-    task-count-requires
-    tasks-of-requires
-    records-place-requires
-    add-at
-    read-records-requires
+    lend-run-requires
     judge-run-requires
     same-length
     same-length-2

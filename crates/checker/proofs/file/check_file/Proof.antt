@@ -1,7 +1,7 @@
 -- A file that is refused, and one that is not. Assumes nothing.
 use borrow.Author.Needs.{needs}
 use Rattle.judging.proofs.Numbered.{not-refused, is-refused}
-use Rattle.checker.proofs.Whole.{check-refused}
+use Rattle.checker.proofs.Told.{check-refused}
 use Rattle.checker.proofs.file.check_file.Statement.{statement}
 use Rattle.checker.proofs.file.check_file.Tie as tie
 

@@ -1,20 +1,18 @@
--- A file that is not refused, lent as its columns; and what is told of one that is refused. Assumes nothing.
+-- A file that is not refused, lent as its columns. Assumes nothing.
 use Prim.Native.Nat.{ℕ, _+_, _*_, _-_, _≤_}
-use mathlib.Core.Path.{_≡_, refl, sym, subst, _∙_, ap}
+use mathlib.Core.Path.{_≡_, refl, sym, _∙_, ap}
 use mathlib.Core.List.{List, _++_, append-nil, map}
-use mathlib.Core.Option.{Option, none, some}
+use mathlib.Core.Option.{none}
 use native.Mathlib.Nat.{add-zero}
 use native.Mathlib.Omega.{arith}
-use lib.ListN.{length, replicate, take, drop}
-use lib.Seq.{take-at, drop-length}
+use lib.ListN.{length, replicate, drop}
+use lib.Seq.{drop-length}
 use Rattle.base.proofs.Find.{some≢none}
 use Rattle.model.specs.declared.setting.Setting.{Setting}
 use Rattle.model.specs.declared.task.Task.{Task}
 use Rattle.model.specs.declared.record.Record.{Record}
-use Rattle.model.specs.Model.{Run, noTask, totalJobs}
+use Rattle.model.specs.Model.{Run, noTask}
 use Rattle.model.specs.File.{Read, refused, whole, read, refusalOf, num, settingAt, taskAt, recordAt, entries, tasksIn, runAt, tasksPlace, recordsPlace, taskSize, recordSize, decoded}
-use Rattle.model.specs.Answers.{refusal}
-use Rattle.model.specs.Compute.Verdict.{verdict, check, checkOf}
 use Rattle.model.proofs.Reading.{read-is, read-limits, read-length, length-entries, column-entries}
 use Rattle.held.proofs.Whole.{fine}
 use Rattle.lent.proofs.Plan.{tasks-decoded}
@@ -27,21 +25,6 @@ told-whole b e = go (read b) refl
     go : (r : Read) → read b ≡ r → (ρ : Run) × (read b ≡ whole ρ)
     go (refused ν i) q = absurd (some≢none (sym (ap refusalOf q) ∙ e))
     go (whole ρ) q = (ρ, q)
-
-pub check-whole : (b : List ℕ) (ρ : Run) → read b ≡ whole ρ → verdict ρ ≡ check b
-unfolding check
-check-whole b ρ e = sym (ap checkOf e)
-
-pub check-refused : (b : List ℕ) (ν i : ℕ) → refusalOf (read b) ≡ some (ν, i) → refusal ν i ≡ check b
-unfolding check
-check-refused b ν i e = go (read b) refl
-  where
-    go : (r : Read) → read b ≡ r → refusal ν i ≡ checkOf (read b)
-    go (refused μ j) q =
-        let z : _≡_ {A = Option (ℕ × ℕ)} (some (μ, j)) (some (ν, i)) = sym (ap refusalOf q) ∙ e in
-        let p : _≡_ {A = ℕ × ℕ} (μ, j) (ν, i) = cc in
-        sym (ap checkOf q ∙ ap (λ t. refusal (t .0) (t .1)) p)
-    go (whole ρ) q = absurd (some≢none (sym e ∙ ap refusalOf q))
 
 -- the tasks that were lent are the file's, with tasks of zeros after them
 pub lent-tasks : (b : List ℕ) (k : ℕ) {τs : List Task} → refusalOf (read b) ≡ none → k ≡ num b tasksPlace → τs ≡ decoded b (replicate 32 noTask) .list
@@ -95,14 +78,6 @@ module _ (b : List ℕ) (ρ : Run) (e : read b ≡ whole ρ) where
 
   -- the values that were read are those of the file
   module _ (σ : Setting) (τs : List Task) (k a l : ℕ) (pσ : σ ≡ settingAt b 4) (pτ : τs ≡ tasksIn b k ++ replicate (32 - k) noTask) (pk : k ≡ n) (pa : a ≡ at) (pl : l ≡ m) where
-    pub few-jobs : totalJobs (take k τs) (σ .horizon) ≤ 512
-    few-jobs =
-        let t : take k τs ≡ ρ .tasks = ap (take k) pτ ∙ take-at (tasksIn b k) (replicate (32 - k) noTask) k (length-entries (taskAt b) taskSize (tasksPlace + 4) k) ∙ ap (tasksIn b) pk ∙ is-tasks in
-        subst (λ us. totalJobs us (σ .horizon) ≤ 512) (sym t) (subst (λ u. totalJobs (ρ .tasks) (u .horizon) ≤ 512) (sym (pσ ∙ is-setting)) (read-limits b ρ e .job-count))
-
-    pub few-cores : σ .cores ≤ 16
-    few-cores = subst (λ u. u .cores ≤ 16) (sym (pσ ∙ is-setting)) (read-limits b ρ e .setting .cores .1)
-
     -- a column as long as there are records, into which the numbers at a place were read
     front : (i : ℕ) (zs xs : List ℕ) → length zs ≡ l → xs ≡ entries (num b) recordSize i l ++ drop l zs → xs ≡ entries (num b) recordSize i l
     front i zs xs z x =
