@@ -16,7 +16,7 @@ fn carry_into(file: &[u8], horizon: u32, output: &mut [u8]) {
     }
 }
 
-pub fn carry_case(file: &[u8], horizon: u32, room: u32) {
+pub(crate) fn carry_case(file: &[u8], horizon: u32, room: u32) {
     let n = room as usize;
     if 16384 < n {
         return;

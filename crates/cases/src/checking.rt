@@ -7,18 +7,18 @@ use text::put_line;
 use wire::Numbers;
 use wire::numbers_of;
 
-pub fn print_numbers(n: Numbers) {
+pub(crate) fn print_numbers(n: Numbers) {
     let mut line = [0u8; 64];
     let k = put_line(&mut line, n);
     io::write_all(STDOUT_FILENO, &line[..k]);
 }
 
-pub fn print_answer(told: Answer) {
+pub(crate) fn print_answer(told: Answer) {
     print_numbers(numbers_of(told));
 }
 
 // The refusal, or 'fine'.
-pub fn refusal_case(file: &[u8]) {
+pub(crate) fn refusal_case(file: &[u8]) {
     let refusal = refusal_in(file);
     if refusal.number == 0 {
         io::write_all(STDOUT_FILENO, b"fine\n");
@@ -27,6 +27,6 @@ pub fn refusal_case(file: &[u8]) {
     print_answer(Answer::Refused(refusal.number, refusal.task));
 }
 
-pub fn check_case(file: &[u8]) {
+pub(crate) fn check_case(file: &[u8]) {
     print_answer(check_file(file));
 }

@@ -15,12 +15,12 @@ fn print_part(part: &[u8]) {
 }
 
 // Record k.
-pub fn record_case(file: &[u8], k: u32) {
+pub(crate) fn record_case(file: &[u8], k: u32) {
     print_part(record_of(file, k));
 }
 
 // A job from its source.
-pub fn shown_case<'a>(recorded: &'a [u8], carried: &'a [u8], task: u32, job: u32) {
+pub(crate) fn shown_case<'a>(recorded: &'a [u8], carried: &'a [u8], task: u32, job: u32) {
     print_part(shown(recorded, carried, task, job));
 }
 
@@ -36,7 +36,7 @@ fn print_task(task: Task) {
 
 // What is decoded into a list with room for so many tasks: the refusal and the count, and then the tasks, of which there are none
 // where the file is refused.
-pub fn tasks_case(file: &[u8], room: u32) {
+pub(crate) fn tasks_case(file: &[u8], room: u32) {
     let plan = planned(file, room as usize);
     print_numbers(Numbers {
         answer: plan.number,
