@@ -9,7 +9,7 @@ use lib.ListN.{length, length-map}
 use Rattle.model.specs.Model.{Run, IsRecord, WithinLimits, rec, taskOf, jobOf, jobs, mostHorizon, mostTime, mostJobs, totalJobs}
 use Rattle.model.specs.Rules.{rule1, rule2, rule3, rule4, rule5, rule6, rule7, rule8, Obeys, Jobs}
 use Rattle.model.specs.Answers.{Late, BeginsBeforeH}
-use Rattle.model.specs.File.{recordNumbers, RecordFits, whole, read, bytes}
+use Rattle.model.specs.File.{recordNumbers, RecordFits, whole, read, bytes, sizeOf}
 use Rattle.model.specs.Carry.{opening, carried, carriedFile, carry}
 use Rattle.model.specs.Compute.Verdict.{verdict, checkOf, check}
 use Rattle.model.proofs.Demand2.{accepted-exactly-if-obeyed}
@@ -76,6 +76,10 @@ module _ (ρ : Run) (H′ : ℕ) (L : WithinLimits ρ) (O : Obeys ρ) (longer : 
 
   carried-total : length (σ .records) ≡ totalJobs (ρ .tasks) H′
   carried-total = rw (carried-tasks, carried-setting) at (record-total σ carried-jobs)
+
+  -- the size of the output
+  pub carried-size : length (bytes (carried ρ H′)) ≡ sizeOf (length (ρ .tasks)) (totalJobs (ρ .tasks) H′)
+  carried-size = omega (arith, length-bytes σ, carried-total, ap length carried-tasks)
 
   pub carried-within : WithinLimits (carried ρ H′)
   carried-within =
@@ -160,14 +164,11 @@ shown-stays-shown b H′ room s e =
 
 -- With room for the longer run, every run that obeys the rules is carried.
 pub carry-given-room : (b : List ℕ) (H′ room : ℕ) (ρ : Run) → read b ≡ whole ρ → Obeys ρ → ρ .setting .horizon ≤ H′ → H′ ≤ mostHorizon
-    → totalJobs (ρ .tasks) H′ ≤ mostJobs → 20 + 20 * length (ρ .tasks) + 24 * totalJobs (ρ .tasks) H′ ≤ room
+    → totalJobs (ρ .tasks) H′ ≤ mostJobs → sizeOf (length (ρ .tasks)) (totalJobs (ρ .tasks) H′) ≤ room
     → (carry b H′ room .told .answer ≡ 5) × (carry b H′ room .writes ≡ bytes (carried ρ H′))
 unfolding carriedFile
 carry-given-room b H′ room ρ q O longer most few space =
     let L = read-limits b ρ q in
-    let σ = carried ρ H′ in
-    let n : length (σ .records) ≡ totalJobs (ρ .tasks) H′ = carried-total ρ H′ L O longer most few in
-    let m : length (σ .tasks) ≡ length (ρ .tasks) = ap length (carried-tasks ρ H′ L O longer most few) in
-    let fits : length (bytes σ) ≤ room = omega (arith, length-bytes σ) in
+    let fits : length (bytes (carried ρ H′)) ≤ room = omega (arith, carried-size ρ H′ L O longer most few) in
     let P = carry-passes b H′ room ρ q (record { longer = longer; most = most; few = few; obeys = O; fits = fits }) in
     (ap (λ o. o .told .answer) P, ap (λ o. o .writes) P)

@@ -11,6 +11,7 @@ pub mod Carried
 pub mod Shown
 pub mod Gates
 pub mod Demand3
+pub mod Refused
 pub mod RecordBytes
 pub mod Pair
 pub mod Columns

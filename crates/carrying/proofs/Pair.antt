@@ -12,14 +12,14 @@ use Rattle.base.proofs.Finds.{Finds}
 use Rattle.model.specs.Model.{Run, Job, IsRecord, rec, jobOf}
 use Rattle.model.specs.Rules.{Jobs}
 use Rattle.model.specs.Answers.{BeginsBeforeH}
-use Rattle.model.specs.File.{bytesOf, recordNumbers, whole, read, bytes, Part, partOf, recordPart}
+use Rattle.model.specs.File.{Bytes, bytesOf, recordNumbers, whole, read, bytes, Part, partOf, recordPart}
 use Rattle.model.specs.Carry.{placeOf, carried, carriedFile, carry, Source, inRecorded, inCarried, leastOf, beganBefore, shownCarried, shownIf, shownOf, shown}
 use Rattle.model.proofs.Reading.{read-limits}
 use Rattle.carrying.proofs.Recorded.{one-record}
 use Rattle.carrying.proofs.AtH.{RecordOf, place-finds}
 use Rattle.carrying.proofs.Gates.{carries, carry-passes}
 use Rattle.carrying.proofs.Demand3.{carried-jobs, carried-reads, kept}
-use Rattle.carrying.proofs.RecordBytes.{Bytes, written-are-bytes, record-bytes}
+use Rattle.carrying.proofs.RecordBytes.{written-are-bytes, record-bytes}
 
 -- the bytes that are shown, of whichever file
 abbrev pub shownBytes : List ℕ → List ℕ → Source → List ℕ

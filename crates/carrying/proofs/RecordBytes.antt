@@ -8,12 +8,8 @@ use lib.ListN.{length, getD, take, drop}
 use lib.Seq.{drop-cons}
 use Rattle.base.proofs.Test.{says-ltb, says-true}
 use Rattle.model.specs.Model.{Run, IsRecord, rec}
-use Rattle.model.specs.File.{num, bytes4, bytesOf, settingNumbers, taskNumbers, recordNumbers, joined, recordAt, bytes, entries, whole, read, partOf, recordPart, recordPlace}
+use Rattle.model.specs.File.{Bytes, num, bytes4, bytesOf, settingNumbers, taskNumbers, recordNumbers, joined, recordAt, bytes, entries, whole, read, partOf, recordPart, recordPlace}
 use Rattle.model.proofs.Reading.{read-records, read-length}
-
--- every entry is a byte
-abbrev pub Bytes : List ℕ → Type 0
-Bytes b = (i : ℕ) → getD b i 0 < 256
 
 -- What is written is of bytes.
 -- ----------------------------

@@ -14,21 +14,10 @@ use Rattle.model.specs.declared.task.Task.{Task}
 use Rattle.model.specs.Model.{Run, rec, task, arrival, jobCount, counts, jobsFrom, existing, due, rank, ready}
 use Rattle.model.specs.Rules.{rule1, rule2, rule3, rule4, rule5, rule6, rule7, rule8, Obeys}
 use Rattle.model.specs.Answers.{Late, LateRecords}
+use Rattle.model.specs.Widen.{WiderTask, Wider, none-left, wider, withTasks}
 use Rattle.model.specs.Compute.Places.{size}
 use Rattle.model.specs.Compute.Verdict.{lateCount, timelyOf, timely, verdict}
 use Rattle.model.proofs.Verdict.{accepted}
-
-pub record WiderTask (τ σ : Task) : Type 0 where
-  pub period : σ .period ≡ τ .period
-  pub offset : σ .offset ≡ τ .offset
-  pub jitter : τ .jitter ≤ σ .jitter
-  pub least : σ .least ≤ τ .least
-  pub greatest : τ .greatest ≤ σ .greatest
-
--- as many tasks, each wider
-pub data Wider : List Task → List Task → Type 0 where
-  none-left : Wider [] []
-  wider : {τ σ : Task} {τs σs : List Task} → WiderTask τ σ → Wider τs σs → Wider (τ ∷ τs) (σ ∷ σs)
 
 wider-at : {τs σs : List Task} → Wider τs σs → (i : ℕ) → WiderTask (task τs i) (task σs i)
 wider-at none-left i = record { period = refl; offset = refl; jitter = omega arith; least = omega arith; greatest = omega arith }
@@ -45,10 +34,6 @@ same-counts (wider w v) H = rw (same-count w H, same-counts v H)
 
 same-arrival : {τ σ : Task} → WiderTask τ σ → (j : ℕ) → arrival σ j ≡ arrival τ j
 same-arrival w j = rw (w .period, w .offset)
-
--- the same run with other tasks
-abbrev pub withTasks : Run → List Task → Run
-withTasks ρ σs = record { setting = ρ .setting; tasks = σs; records = ρ .records }
 
 module _ (ρ : Run) (σs : List Task) (v : Wider (ρ .tasks) σs) where
   abbrev σ : Run

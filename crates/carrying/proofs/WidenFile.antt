@@ -1,36 +1,26 @@
 -- Widening of files: a file that is accepted, with wider tasks within the limits, is told what it was told before. Assumes that the
 -- file is a list of bytes.
-use Prim.Native.Nat.{ℕ, suc, _+_, _≤_, _<_}
-use mathlib.Core.Path.{_≡_, refl, sym, subst, _∙_, ap}
+use Prim.Native.Nat.{ℕ, suc, _≤_, _<_}
+use mathlib.Core.Path.{_≡_, refl, sym, _∙_, ap}
 use mathlib.Core.List.{List}
 use native.Mathlib.Omega.{arith}
 use lib.ListN.{length}
 use Rattle.model.specs.declared.task.Task.{Task}
-use Rattle.model.specs.Model.{Run, IsRecord, WithinLimits, TaskInRange, rec, task}
-use Rattle.model.specs.File.{RecordFits, FourBytes, num, recordNumbers, recordAt, recordPlace, whole, read, bytes}
+use Rattle.model.specs.Model.{Run, WithinLimits, TaskInRange, task}
+use Rattle.model.specs.File.{Bytes, whole, read, bytes}
+use Rattle.model.specs.Widen.{Wider, none-left, wider, withTasks}
 use Rattle.model.specs.Compute.Verdict.{verdict, checkOf, check}
 use Rattle.model.proofs.Demand2.{accepted-exactly-if-obeyed}
-use Rattle.model.proofs.Reading.{read-limits, read-records}
-use Rattle.model.proofs.RoundTrip.{Fits, fits-nil, fits-cons, read-back}
-use Rattle.carrying.proofs.RecordBytes.{Bytes}
-use Rattle.carrying.proofs.Widen.{Wider, none-left, wider, withTasks, same-counts, widened-verdict}
+use Rattle.model.proofs.Reading.{read-limits}
+use Rattle.model.proofs.RoundTrip.{read-back}
+use Rattle.model.proofs.Slices.{record-fits}
+use Rattle.carrying.proofs.Widen.{same-counts, widened-verdict}
 
 as-many : {τs σs : List Task} → Wider τs σs → length σs ≡ length τs
 as-many none-left = refl
 as-many (wider w v) = ap suc (as-many v)
 
 module _ (b : List ℕ) (B : Bytes b) (ρ : Run) (reads : read b ≡ whole ρ) where
-  four : (i : ℕ) → FourBytes (num b i)
-  four i = omega (arith, B i, B (i + 1), B (i + 2), B (i + 3))
-
-  entry-fits : (i : ℕ) → Fits (recordNumbers (recordAt b i))
-  entry-fits i =
-      fits-cons (four i) (fits-cons (four (i + 4)) (fits-cons (four (i + 8))
-      (fits-cons (four (i + 12)) (fits-cons (four (i + 16)) (fits-cons (four (i + 20)) fits-nil)))))
-
-  record-fits : (k : ℕ) → IsRecord ρ k → RecordFits (rec ρ k)
-  record-fits k h = subst (λ x. Fits (recordNumbers x)) (sym (read-records b ρ reads k h)) (entry-fits (recordPlace ρ k)) .at
-
   module _ (σs : List Task) (v : Wider (ρ .tasks) σs) (within : (i : ℕ) → i < length σs → TaskInRange (task σs i)) where
     wider-limits : WithinLimits (withTasks ρ σs)
     wider-limits =
@@ -49,4 +39,4 @@ module _ (b : List ℕ) (B : Bytes b) (ρ : Run) (reads : read b ≡ whole ρ) w
     widened-file accepted =
         let told : check b ≡ verdict ρ = ap checkOf reads in
         let O = accepted-exactly-if-obeyed ρ .0 (rw told at accepted) in
-        ap checkOf (read-back (withTasks ρ σs) wider-limits record-fits) ∙ widened-verdict ρ σs v O ∙ sym told
+        ap checkOf (read-back (withTasks ρ σs) wider-limits (record-fits b B ρ reads)) ∙ widened-verdict ρ σs v O ∙ sym told

@@ -8,7 +8,10 @@ pub mod Tests
 pub mod Places
 pub mod Lowest
 pub mod Verdict
+pub mod Refusals
 pub mod Demand1
+pub mod Slices
+pub mod Calls
 pub mod Demand2
 pub mod Worked
 pub mod FourReadings

@@ -49,25 +49,25 @@ module _ (ρ : Run) where
       (finds-same (λ k h. (omega (arith, h .1), h .2)) (λ k h. (omega arith, omega (arith, h .0), h .1))
       (first-finds (λ k. not (good k)) _ (λ k. says-not (S k)) 0 (size ρ)))
 
+  past : (l : List Job) (k : ℕ) → length l ≤ k → getElem? l k ≡ none
+  past [] k h = refl
+  past (x ∷ l) zero h = absurd (omega arith)
+  past (x ∷ l) (suc k) h = past l k (omega arith)
+
+  -- two lists differ only before the end of the longer
+  pub differ-within : (k : ℕ) → Differ ρ k → k < max (length (jobsRecorded ρ)) (length (existing ρ))
+  differ-within k h = go (decLt k (max (length (jobsRecorded ρ)) (length (existing ρ))))
+    where
+      go : Dec (k < max (length (jobsRecorded ρ)) (length (existing ρ))) → k < max (length (jobsRecorded ρ)) (length (existing ρ))
+      go (yes l) = l
+      go (no l) = absurd (h (past (jobsRecorded ρ) k (omega (arith, l)) ∙ sym (past (existing ρ) k (omega (arith, l)))))
+
   differ-finds : Finds Before (OfOne (Differ ρ)) (find rule1 ρ)
   unfolding find
   differ-finds =
       finds-one (Differ ρ) _
-      (finds-same (λ k h. h .2) (λ k h. (omega arith, range k h, h))
+      (finds-same (λ k h. h .2) (λ k h. (omega arith, omega (arith, differ-within k h), h))
       (first-finds (differ ρ) _ (λ k. says-not (says-same-entry _ _)) 0 (max (length (jobsRecorded ρ)) (length (existing ρ)))))
-    where
-      past : (l : List Job) (k : ℕ) → length l ≤ k → getElem? l k ≡ none
-      past [] k h = refl
-      past (x ∷ l) zero h = absurd (omega arith)
-      past (x ∷ l) (suc k) h = past l k (omega arith)
-
-      range : (k : ℕ) → Differ ρ k → k < 0 + max (length (jobsRecorded ρ)) (length (existing ρ))
-      range k h = go (decLt k (max (length (jobsRecorded ρ)) (length (existing ρ))))
-        where
-          go : Dec (k < max (length (jobsRecorded ρ)) (length (existing ρ))) → k < 0 + max (length (jobsRecorded ρ)) (length (existing ρ))
-          go (yes l) = omega arith
-          go (no l) =
-              absurd (h (past (jobsRecorded ρ) k (omega (arith, l)) ∙ sym (past (existing ρ) k (omega (arith, l)))))
 
   overlap-finds : Finds Before (OfTwo (Overlap ρ)) (find rule6 ρ)
   unfolding find

@@ -16,7 +16,7 @@ use Rattle.model.specs.File.{Read, refused, whole, num, settingAt, taskA
 use Rattle.model.specs.Compute.Limits.{badTask}
 use Rattle.model.proofs.Limits.{says-within, says-setting, tasks-fine}
 
-whole≢refused : {ρ : Run} {ν i : ℕ} → ¬ (refused ν i ≡ whole ρ)
+pub whole≢refused : {ρ : Run} {ν i : ℕ} → ¬ (refused ν i ≡ whole ρ)
 whole≢refused {ρ} {ν} {i} e = let z : true ≡ false = cc in true≢false z
 
 -- the gates let a run through exactly if the test passes

@@ -49,7 +49,7 @@ fits-task τ h =
 
 -- Where the numbers stand.
 -- ------------------------
-digits : (v : ℕ) → FourBytes v → v % 256 + 256 * (v / 256 % 256) + 65536 * (v / 65536 % 256) + 16777216 * (v / 16777216 % 256) ≡ v
+pub digits : (v : ℕ) → FourBytes v → v % 256 + 256 * (v / 256 % 256) + 65536 * (v / 65536 % 256) + 16777216 * (v / 16777216 % 256) ≡ v
 digits v h =
     let a : v / 256 / 256 ≡ v / 65536 = div-div-eq-div-mul v 256 256 in
     let b : v / 65536 / 256 ≡ v / 16777216 = div-div-eq-div-mul v 65536 256 in

@@ -1,6 +1,7 @@
 -- Document 01, "What the checker says".
-use Prim.Native.Nat.{ℕ, zero, suc, _+_, _<_}
+use Prim.Native.Nat.{ℕ, zero, suc, _+_, _≤_, _<_}
 use mathlib.Core.Path.{_≡_}
+use mathlib.Core.Logic.{_⊎_}
 use mathlib.Core.List.{List}
 use lib.ListN.{length}
 use Rattle.base.specs.First.{First, Number}
@@ -87,3 +88,24 @@ pub data Verdict (ρ : Run) : Five → Type 0 where
 pub data Answered (b : List ℕ) : Five → Type 0 where
   not-read : {ν i : ℕ} → read b ≡ refused ν i → Answered b (refusal ν i)
   judged : {ρ : Run} {f : Five} → read b ≡ whole ρ → Verdict ρ f → Answered b f
+
+-- Every sequence of bytes gets one of the listed answers.
+-- -------------------------------------------------------
+
+-- A number of the table of refusals, up to the last that a call can give, with a task for 5, else 0.
+pub record Listed (last ν i : ℕ) : Type 0 where
+  pub low : 1 ≤ ν
+  pub high : ν ≤ last
+  pub task : (ν ≡ 5) ⊎ (i ≡ 0)
+
+-- A row of the table of answers that a check can give, and one that a carry can give.
+pub data Row : Five → Type 0 where
+  row0 : Row inTime
+  row1 : (n k : ℕ) → Row (lateBeforeH n k)
+  row2 : (n k : ℕ) → Row (lateFromH n k)
+  row3 : (ν : Rule) (p : Place) → Row (ruleBroken (number ν) p)
+  row4 : {ν i : ℕ} → Listed 8 ν i → Row (refusal ν i)
+
+pub data CarryRow : Five → Type 0 where
+  carry4 : {ν i : ℕ} → Listed 11 ν i → CarryRow (refusal ν i)
+  carry5 : (n : ℕ) → CarryRow (carriedTo n)

@@ -4,9 +4,9 @@ use Prim.Native.Nat.{ℕ}
 use mathlib.Core.Bool.{Bool, true, false}
 use mathlib.Core.List.{List, [], _∷_, _++_}
 use lib.Dec.{ltb}
-use lib.ListN.{length, drop}
-use Rattle.model.specs.File.{bytesOf}
-use Rattle.model.specs.Answers.{Five}
+use lib.ListN.{length, take, drop}
+use Rattle.model.specs.File.{num, bytesOf}
+use Rattle.model.specs.Answers.{Five, five}
 use Rattle.model.specs.Carry.{Carried, carry}
 use Rattle.model.specs.Compute.Verdict.{check}
 
@@ -52,3 +52,11 @@ carryCallIf false o output answer =
 
 unfoldable pub carryCall : List ℕ → ℕ → List ℕ → List ℕ → CarryCall
 carryCall file H′ output answer = carryCallIf (tooShort answer) (carry file H′ (length output)) output answer
+
+-- What a host reads after a call: the five numbers of an answer slice, and the file at the front of an output, as many bytes as the code
+-- in the answer slice says.
+abbrev pub fiveIn : List ℕ → Five
+fiveIn answer = five (num answer 0) (num answer 4) (num answer 8) (num answer 12) (num answer 16)
+
+abbrev pub fileIn : List ℕ → List ℕ → List ℕ
+fileIn output answer = take (fiveIn answer .code) output

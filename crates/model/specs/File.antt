@@ -22,6 +22,10 @@ num b i = getD b i 0 + 256 * getD b (i + 1) 0 + 65536 * getD b (i + 2) 0 + 16777
 abbrev pub bytes4 : ℕ → List ℕ
 bytes4 v = v % 256 ∷ v / 256 % 256 ∷ v / 65536 % 256 ∷ v / 16777216 % 256 ∷ []
 
+-- every entry of a list is a byte, as of a slice of bytes
+abbrev pub Bytes : List ℕ → Type 0
+Bytes b = (i : ℕ) → getD b i 0 < 256
+
 -- numbers one after the other
 abbrev pub bytesOf : List ℕ → List ℕ
 bytesOf [] = []
@@ -92,6 +96,10 @@ tasksPlace = 12
 
 abbrev pub recordsPlace : ℕ → ℕ
 recordsPlace n = tasksPlace + 4 + taskSize * n
+
+-- how many bytes a file of n tasks and m records has
+abbrev pub sizeOf : ℕ → ℕ → ℕ
+sizeOf n m = recordsPlace n + 4 + recordSize * m
 
 -- The file is judged from the front and the first fault met is the answer.
 -- ------------------------------------------------------------------------

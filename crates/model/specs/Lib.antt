@@ -3,7 +3,9 @@ pub mod Model
 pub mod File
 pub mod Rules
 pub mod Answers
+pub mod Refusals
 pub mod Carry
 pub mod Calls
 pub mod Report
+pub mod Widen
 pub mod Compute
