@@ -1,21 +1,24 @@
 -- What a carry says and writes, and what holds of the file that it writes: for the calls of a host. Assumes nothing.
 use Prim.Native.Nat.{ℕ, _+_, _*_, _≤_, _<_}
 use mathlib.Core.Path.{_≡_, refl, sym, subst, _∙_, ap}
-use mathlib.Core.Logic.{_↔_}
+use mathlib.Core.Logic.{_↔_, _⊎_, inl, inr}
 use mathlib.Core.List.{List, []}
 use native.Mathlib.Omega.{arith}
-use lib.ListN.{length}
+use native.Mathlib.Decide.{decLt}
+use lib.ListN.{length, drop}
 use Rattle.model.specs.Model.{Run, IsRecord, WithinLimits, mostHorizon, mostJobs, totalJobs, rec}
 use Rattle.model.specs.Rules.{Obeys}
 use Rattle.model.specs.Answers.{refusal, carriedTo, Late, BeginsBeforeH}
 use Rattle.model.specs.File.{Bytes, bytesOf, bytes, recordNumbers, whole, read, partOf, recordPart}
 use Rattle.model.specs.Refusals.{NoFault, runIn, askedOfFile, askedOfCarry, askedOfBoth, Names}
+use Rattle.model.specs.Calls.{answerSize, front, fiveIn, CarryCall, carryCall}
 use Rattle.model.specs.Carry.{Carried, carried, carriedFile, carry}
 use Rattle.model.specs.Compute.Verdict.{verdict, checkOf, check}
 use Rattle.model.proofs.Demand2.{accepted-exactly-if-obeyed}
 use Rattle.model.proofs.Reading.{read-limits, read-is}
 use Rattle.model.proofs.Refusals.{no-fault, no-fault-both, told-exactly-when, Comes}
-use Rattle.model.proofs.Slices.{FiveFit, refusal-fits}
+use Rattle.model.proofs.Slices.{FiveFit, five-read, refusal-fits}
+use Rattle.model.proofs.Calls.{carry-short, carry-filled, answer-kept}
 use Rattle.carrying.proofs.Shown.{one-exactly-if-shown}
 use Rattle.carrying.proofs.RecordBytes.{written-are-bytes, record-bytes}
 use Rattle.carrying.proofs.Demand3.{carried-size, carried-obeys, carried-reads, kept, lateness-stays}
@@ -83,6 +86,33 @@ module _ (b : List ℕ) (H′ room : ℕ) where
       go (Comes.refuses ν i f m e) =
           subst (λ o. FiveFit (o .told)) (sym e) (refusal-fits b B 11 ν i (omega arith) (fault-listed-both b H′ room ν i f m) m)
       go (Comes.passes h e) = subst (λ o. FiveFit (o .told)) (sym e) (size-fits h)
+
+-- What a host reads after a carry.
+-- --------------------------------
+module _ (b : List ℕ) (H′ : ℕ) (o a : List ℕ) (c : CarryCall) (e : c ≡ carryCall b H′ o a) where
+  abbrev w : Carried
+  w = carry b H′ (length o)
+
+  pub carry-told : Bytes b → answerSize ≤ length a
+      → (fiveIn (c .answer) ≡ carry b H′ (length o) .told)
+      × (c .returns ≡ carry b H′ (length o) .told .answer)
+      × (c .output ≡ front (carry b H′ (length o) .writes) o)
+      × (drop answerSize (c .answer) ≡ drop answerSize a)
+  carry-told B long =
+      let q = e ∙ carry-filled b H′ o a long in (
+        ap (λ c. fiveIn (c .answer)) q ∙ five-read (w .told) a (carry-fits b H′ (length o) B),
+        ap (λ c. c .returns) q,
+        ap (λ c. c .output) q,
+        ap (λ c. drop answerSize (c .answer)) q ∙ answer-kept (w .told) a,
+      )
+
+  -- the answer slice is too short, or it is not
+  pub short-or-long : ((c .returns ≡ 4) × (c .output ≡ o)) ⊎ (answerSize ≤ length a)
+  short-or-long = go (decLt (length a) answerSize)
+    where
+      go : Dec (length a < answerSize) → ((c .returns ≡ 4) × (c .output ≡ o)) ⊎ (answerSize ≤ length a)
+      go (yes h) = let q = e ∙ carry-short b H′ o a h in inl (ap (λ c. c .returns) q, ap (λ c. c .output) q)
+      go (no h) = inr (omega (arith, h))
 
 -- Of the file that is written
 -- ---------------------------

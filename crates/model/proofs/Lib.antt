@@ -10,8 +10,8 @@ pub mod Lowest
 pub mod Verdict
 pub mod Refusals
 pub mod Demand1
-pub mod Slices
 pub mod Calls
+pub mod Slices
 pub mod Demand2
 pub mod Worked
 pub mod FourReadings

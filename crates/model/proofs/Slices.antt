@@ -5,14 +5,14 @@ use mathlib.Core.Path.{_≡_, refl, sym, subst, _∙_, ap}
 use mathlib.Core.Logic.{_⊎_, inl, inr}
 use mathlib.Core.List.{List, map}
 use native.Mathlib.Omega.{arith}
-use lib.ListN.{length, length-map}
+use lib.ListN.{length, drop, length-map}
 use Rattle.base.specs.First.{First, Number}
 use Rattle.model.specs.Model.{Run, IsRecord, rec, jobOf, existing, WithinLimits, totalJobs}
 use Rattle.model.specs.File.{Bytes, FourBytes, RecordFits, num, taskSize, tasksPlace, taskAt, recordNumbers, recordAt, recordPlace, refused, whole, read}
 use Rattle.model.specs.Rules.{Rule, rule1, rule2, rule3, rule4, rule5, rule6, rule7, rule8, Place, BrokenAt, Fails, OfOne, jobsRecorded}
 use Rattle.model.specs.Answers.{Five, Late, number, refusal, ruleBroken, Listed, Verdict, Answered}
 use Rattle.model.specs.Refusals.{taskCount, tasksTold, Names}
-use Rattle.model.specs.Calls.{answerSize, numbers, written, fiveIn}
+use Rattle.model.specs.Calls.{answerSize, numbers, written, fiveIn, CheckCall, checkCall}
 use Rattle.model.specs.Compute.Verdict.{check}
 use Rattle.model.proofs.Jobs.{length-jobs}
 use Rattle.model.proofs.Reading.{length-entries, read-limits, read-records}
@@ -21,6 +21,7 @@ use Rattle.model.proofs.Places.{differ-within}
 use Rattle.model.proofs.Verdict.{check-iff}
 use Rattle.model.proofs.Refusals.{refused-exactly-when}
 use Rattle.model.proofs.Demand1.{refused-listed}
+use Rattle.model.proofs.Calls.{check-filled, answer-kept}
 
 -- Five numbers of four bytes, written into an answer slice, are read there.
 pub record FiveFit (f : Five) : Type 0 where
@@ -123,3 +124,13 @@ module _ (b : List ℕ) (B : Bytes b) where
       go : (f : Five) → Answered b f → FiveFit f
       go f (Answered.not-read {ν = ν} {i = i} e) = refusal-fits 8 ν i (omega arith) (refused-listed b ν i e) (refused-exactly-when b ν i .0 e .1)
       go f (Answered.judged {ρ = ρ} e v) = verdict-fits ρ e f v
+
+  -- What a host reads after a check.
+  pub check-told : (a : List ℕ) (c : CheckCall) → c ≡ checkCall b a → answerSize ≤ length a
+      → (fiveIn (c .answer) ≡ check b) × (c .returns ≡ check b .answer) × (drop answerSize (c .answer) ≡ drop answerSize a)
+  check-told a c e long =
+      let q = e ∙ check-filled b a long in (
+        ap (λ c. fiveIn (c .answer)) q ∙ five-read (check b) a check-fits,
+        ap (λ c. c .returns) q,
+        ap (λ c. drop answerSize (c .answer)) q ∙ answer-kept (check b) a,
+      )

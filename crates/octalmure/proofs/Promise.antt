@@ -3,7 +3,7 @@
 -- crates/model/specs, and docs/MODEL.md sets them against the paper's sentences. Assumes nothing.
 use Prim.Native.Nat.{ℕ, _≤_, _<_}
 use mathlib.Core.Path.{_≡_, sym, subst, _∙_, ap}
-use mathlib.Core.Logic.{_↔_, _⊎_, inl, inr, ⊎-elim}
+use mathlib.Core.Logic.{_↔_, ⊎-elim}
 use mathlib.Core.List.{List}
 use native.Mathlib.Omega.{arith}
 use native.Mathlib.Decide.{decLt}
@@ -19,18 +19,18 @@ use Rattle.model.specs.Rules.{Rule, Place, Holds, Obeys, FirstPlace}
 use Rattle.model.specs.Answers.{Five, number, ruleBroken, refusal, Late, BeginsBeforeH, LateRecords, Verdict, Row, CarryRow}
 use Rattle.model.specs.File.{Bytes, bytes, whole, read, partOf, recordPart}
 use Rattle.model.specs.Refusals.{FirstFault, NoFault, runIn, askedOfFile, askedOfBoth, Names}
-use Rattle.model.specs.Carry.{Carried, carried, carry}
+use Rattle.model.specs.Carry.{carried, carry}
 use Rattle.model.specs.Calls.{answerSize, front, fiveIn, fileIn, checkCall, carryCall}
 use Rattle.model.specs.Widen.{Wider, withTasks}
 use Rattle.model.specs.Compute.Verdict.{verdict, check}
-use Rattle.model.proofs.Calls.{check-short, check-filled, carry-short, carry-filled, rest-kept, answer-kept}
-use Rattle.model.proofs.Slices.{five-read, check-fits}
+use Rattle.model.proofs.Calls.{check-short, carry-short, rest-kept}
+use Rattle.model.proofs.Slices.{check-told}
 use Rattle.model.proofs.Refusals.{check-refuses, judged, accepted-reads}
 use Rattle.model.proofs.Verdict.{verdict-iff}
 use Rattle.model.proofs.Demand1.{every-file-answered}
 use Rattle.model.proofs.Demand2.{accepted-exactly-if-obeyed, lowest-broken-rule-named, broken-rule-named, late-jobs-counted}
 use Rattle.carrying.proofs.Refused.{carry-refuses, every-carry-answered}
-use Rattle.carrying.proofs.Call.{Carriable, carriable, refused-writes-nothing, carries-exactly, carried-out, carry-fits, file-accepted, file-keeps, file-late, file-shows}
+use Rattle.carrying.proofs.Call.{Carriable, carriable, refused-writes-nothing, carries-exactly, carried-out, carry-told, short-or-long, file-accepted, file-keeps, file-late, file-shows}
 use Rattle.carrying.proofs.Widen.{widened-same-late}
 use Rattle.carrying.proofs.WidenFile.{widened-file}
 use Rattle.octalmure.proofs.check.octalmure_check.Kinds as check-kinds
@@ -63,27 +63,26 @@ pub record Carries (b : List ℕ) (H′ : ℕ) (o a : List ℕ) (r : ℕ) (o′ 
   pub written : now (back .1 .1 .0) ≡ o′
   pub left : now (back .1 .1 .1 .0) ≡ a′
 
--- What is known of a call: it is the definition's, of a list of bytes.
--- --------------------------------------------------------------------
+-- What is known of a call: it is the definition's.
+-- ------------------------------------------------
 module _ {b a a′ : List ℕ} {r : ℕ} (C : Checks b a r a′) where
   is-check : record { returns = r; answer = a′ } ≡ checkCall b a
   is-check =
       let (p, q) = C .permitted in
       (λ κ. record { returns = p κ; answer = (sym (C .left) ∙ q) κ }) ∙ (λ κ. checkCall (C .file κ) (C .answer κ))
 
+  -- what is not answered 4 has an answer slice that is long enough
+  long-enough : ¬ (r ≡ 4) → answerSize ≤ length a
+  long-enough other = go (decLt (length a) answerSize)
+    where
+      go : Dec (length a < answerSize) → answerSize ≤ length a
+      go (yes h) = absurd (other (ap (λ c. c .returns) (is-check ∙ check-short b a h)))
+      go (no h) = omega (arith, h)
+
   says : answerSize ≤ length a → (fiveIn a′ ≡ check b) × (r ≡ check b .answer) × (drop answerSize a′ ≡ drop answerSize a)
-  says long =
-      let e = is-check ∙ check-filled b a long in
-      let left = ap (λ c. c .answer) e in (
-        ap fiveIn left ∙ five-read (check b) a (check-fits b (C .of-bytes)),
-        ap (λ c. c .returns) e,
-        ap (drop answerSize) left ∙ answer-kept (check b) a,
-      )
+  says = check-told b (C .of-bytes) a _ is-check
 
 module _ {b o a o′ a′ : List ℕ} {H′ r : ℕ} (C : Carries b H′ o a r o′ a′) where
-  abbrev w : Carried
-  w = carry b H′ (length o)
-
   is-carry : record { returns = r; output = o′; answer = a′ } ≡ carryCall b H′ o a
   is-carry =
       let (p, q, s) = C .permitted in
@@ -91,19 +90,9 @@ module _ {b o a o′ a′ : List ℕ} {H′ r : ℕ} (C : Carries b H′ o a r o
       ∙ (λ κ. carryCall (C .file κ) (C .horizon κ) (C .output κ) (C .answer κ))
 
   tells : answerSize ≤ length a
-      → (fiveIn a′ ≡ w .told) × (r ≡ w .told .answer) × (o′ ≡ front (w .writes) o) × (drop answerSize a′ ≡ drop answerSize a)
-  tells long =
-      let e = is-carry ∙ carry-filled b H′ o a long in
-      let left = ap (λ c. c .answer) e in (
-        ap fiveIn left ∙ five-read (w .told) a (carry-fits b H′ (length o) (C .of-bytes)),
-        ap (λ c. c .returns) e,
-        ap (λ c. c .output) e,
-        ap (drop answerSize) left ∙ answer-kept (w .told) a,
-      )
-
-  short-or-long : Dec (length a < answerSize) → ((r ≡ 4) × (o′ ≡ o)) ⊎ (answerSize ≤ length a)
-  short-or-long (yes h) = let e = is-carry ∙ carry-short b H′ o a h in inl (ap (λ c. c .returns) e, ap (λ c. c .output) e)
-  short-or-long (no h) = inr (omega (arith, h))
+      → let w = carry b H′ (length o) in
+      (fiveIn a′ ≡ w .told) × (r ≡ w .told .answer) × (o′ ≡ front (w .writes) o) × (drop answerSize a′ ≡ drop answerSize a)
+  tells = carry-told b H′ o a _ is-carry (C .of-bytes)
 
 -- Demand 1. Every sequence of bytes gets one of the listed answers. Nothing is assumed of the caller. A refusal carries its number
 -- wherever there is room to write it, and a refused carry changes no byte of the output.
@@ -138,7 +127,7 @@ module _ {b o a o′ a′ : List ℕ} {H′ r : ℕ} (C : Carries b H′ o a r o
 
   -- An answer other than 5 is 4, and no byte of the output changes.
   pub carry-refused-keeps : ¬ (r ≡ 5) → (r ≡ 4) × (o′ ≡ o)
-  carry-refused-keeps other = ⊎-elim (λ h. h) refused (short-or-long C (decLt (length a) answerSize))
+  carry-refused-keeps other = ⊎-elim (λ h. h) refused (short-or-long b H′ o a _ (is-carry C))
     where
       refused : answerSize ≤ length a → (r ≡ 4) × (o′ ≡ o)
       refused long =
@@ -189,7 +178,7 @@ module _ {b o a o′ a′ : List ℕ} {H′ r : ℕ} (C : Carries b H′ o a r o
 
   module _ (five : r ≡ 5) where
     long : answerSize ≤ length a
-    long = ⊎-elim (λ h. absurd (omega (arith, h .0))) (λ h. h) (short-or-long C (decLt (length a) answerSize))
+    long = ⊎-elim (λ h. absurd (omega (arith, h .0))) (λ h. h) (short-or-long b H′ o a _ (is-carry C))
 
     no-fault : NoFault (askedOfBoth b H′ (length o))
     no-fault = carry-carries-exactly long .0 five
@@ -224,24 +213,25 @@ module _ {b o a o′ a′ : List ℕ} {H′ r : ℕ} (C : Carries b H′ o a r o
     carried-stays-late = file-late b (C .of-bytes) H′ known (fileIn o′ a′) (carry-writes .0)
 
     -- .. and where a check of the recorded file answers 1, so does one of the carried file.
-    pub carried-shows : {a₁ a₁′ a₂ a₂′ : List ℕ} {r₂ : ℕ} → Checks b a₁ 1 a₁′ → answerSize ≤ length a₁ → Checks (fileIn o′ a′) a₂ r₂ a₂′ → answerSize ≤ length a₂ → r₂ ≡ 1
-    carried-shows D long₁ E long₂ =
-        says E long₂ .1 ∙ file-shows b (C .of-bytes) H′ known (fileIn o′ a′) (carry-writes .0) (sym (says D long₁ .1))
+    pub carried-shows : {a₁ a₁′ a₂ a₂′ : List ℕ} {r₂ : ℕ} → Checks b a₁ 1 a₁′ → Checks (fileIn o′ a′) a₂ r₂ a₂′ → answerSize ≤ length a₂ → r₂ ≡ 1
+    carried-shows D E long₂ =
+        let one = sym (says D (long-enough D (λ e. omega (arith, e))) .1) in
+        says E long₂ .1 ∙ file-shows b (C .of-bytes) H′ known (fileIn o′ a′) (carry-writes .0) one
 
 -- And if any task is allowed more jitter, a shorter least time or a longer greatest time within the limits, the first run is still
 -- accepted with the same late jobs.
-module _ {b a a′ : List ℕ} {r : ℕ} (C : Checks b a r a′) (long : answerSize ≤ length a) (accepted : r ≤ 2) (σs : List Task)
+module _ {b a a′ : List ℕ} {r : ℕ} (C : Checks b a r a′) (accepted : r ≤ 2) (σs : List Task)
     (wider : Wider (runIn b .tasks) σs) (within : (i : ℕ) → i < length σs → TaskInRange (task σs i)) where
   pub widened-is-told-the-same : {a₂ a₂′ : List ℕ} {r₂ : ℕ} → Checks (bytes (withTasks (runIn b) σs)) a₂ r₂ a₂′ → answerSize ≤ length a₂
       → (r₂ ≡ r) × (fiveIn a₂′ ≡ fiveIn a′)
   widened-is-told-the-same D long₂ =
-      let (f, n, k) = says C long in
+      let (f, n, k) = says C (long-enough C (λ e. omega (arith, e))) in
       let (f₂, n₂, k₂) = says D long₂ in
       let e = widened-file b (C .of-bytes) (runIn b) reads σs wider within (rw n at accepted) in
       (n₂ ∙ ap (λ f. f .answer) e ∙ sym n, f₂ ∙ e ∙ sym f)
     where
       reads : read b ≡ whole (runIn b)
-      reads = accepted-reads b (subst (λ n. n ≤ 2) (says C long .1) accepted)
+      reads = accepted-reads b (subst (λ n. n ≤ 2) (says C (long-enough C (λ e. omega (arith, e))) .1) accepted)
 
   pub widened-is-late-the-same : (k : ℕ) → Late (withTasks (runIn b) σs) k ↔ Late (runIn b) k
   widened-is-late-the-same = widened-same-late (runIn b) σs wider
