@@ -1,5 +1,5 @@
 #!/usr/bin/env python3
-"""Writes the paper's worked runs as run files beside this script.
+"""Writes the paper's worked runs, and the longest run file, as run files beside this script.
 
   make.py [FOLDER]
 """
@@ -42,6 +42,13 @@ RUNS = {
     "c9": run(1, 512, [UNIT], [(0, j, j, j, j + 1, 1) for j in range(512)]),
     "c10": run(1, 513, [UNIT], []),
     "c11": run(1, 1, [(1, 1, 1, 1, 0)], []),
+    # 32 tasks with 16 jobs each, released at 32j, two ticks long, on one core: they start one after the other, by job and then by
+    # task, half of them from H on. Job j of task i ends at 64j + 2i + 2 and is due at 32j + 32, so it is in time only if j = 0 and
+    # i < 16: 496 are late, and record 1 is the first. A carry to its own H starts those from H on in the same order, so it writes
+    # the same bytes.
+    "longest": run(1, 512, [(32, 2, 2, 0, 0)] * 32, [
+        (i, j, 32 * j, 64 * j + 2 * i, 64 * j + 2 * i + 2, 1) for i in range(32) for j in range(16)
+    ]),
 }
 
 for name, data in RUNS.items():

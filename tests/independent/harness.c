@@ -1,6 +1,6 @@
 /* harness SEED COUNT [PATH]         holds the library to the oracle on COUNT cases; PATH gets the first file they differ on
    harness --self SEED COUNT [PATH]  holds the oracle to itself, to the laws of the slices and to a word by word reading
-   Both try the worked runs of the paper too. */
+   Both try the worked runs of the paper and the long files of the seed too. */
 #include <inttypes.h>
 #include <stdbool.h>
 #include <stdio.h>
@@ -9,6 +9,7 @@
 
 #include "cases.h"
 #include "literal.h"
+#include "long.h"
 #include "oracle.h"
 #include "subject.h"
 #include "worked.h"
@@ -23,14 +24,22 @@ enum { CANARY = 32, ALIGNMENTS = 8, ANSWER_BYTES = 20, REFUSED = 4, CARRIED = 5,
 
 /* ---- lent slices ---- */
 
+enum { MOST_LENT_BYTES = CANARY + ALIGNMENTS + MOST_LONG_BYTES + CANARY };
+
 /* A slice with canary bytes in front of it and behind. The front varies, so that slices stand at all alignments. */
 typedef struct {
-    uint8_t memory[CANARY + ALIGNMENTS + MOST_CASE_BYTES + CANARY];
+    uint8_t memory[MOST_LENT_BYTES];
     size_t front, length;
 } Lent;
 
-static uint8_t pattern(size_t at) {
-    return (uint8_t)(0xA5 ^ at * 37 ^ at >> 8);
+/* What stands in memory that was not written to; it is told only as far as some slice went. */
+static const uint8_t *pattern(size_t count) {
+    static uint8_t bytes[MOST_LENT_BYTES];
+    static size_t told;
+    for (; told < count; told++) {
+        bytes[told] = (uint8_t)(0xA5 ^ told * 37 ^ told >> 8);
+    }
+    return bytes;
 }
 
 static uint8_t *slice(Lent *lent) {
@@ -43,27 +52,20 @@ static size_t all_of(const Lent *lent) {
 
 /* Contents may be NULL: then the slice, too, has the pattern, and it shows which bytes were written. */
 static void lend(Lent *lent, size_t alignment, size_t length, const uint8_t *contents) {
-    static uint8_t filled[sizeof lent->memory];
-    if (filled[0] != pattern(0)) {
-        for (size_t i = 0; i < sizeof filled; i++) {
-            filled[i] = pattern(i);
-        }
-    }
     lent->front = CANARY + alignment % ALIGNMENTS;
     lent->length = length;
-    memcpy(lent->memory, filled, all_of(lent));
-    if (contents != NULL) {
-        memcpy(slice(lent), contents, length);
+    size_t all = all_of(lent), back = lent->front + length;
+    if (contents == NULL) {
+        memcpy(lent->memory, pattern(all), all);
+        return;
     }
+    memcpy(lent->memory, pattern(all), lent->front);
+    memcpy(slice(lent), contents, length);
+    memcpy(lent->memory + back, pattern(all) + back, all - back);
 }
 
 static bool patterned(const Lent *lent, size_t from, size_t to) {
-    for (size_t i = from; i < to; i++) {
-        if (lent->memory[i] != pattern(i)) {
-            return false;
-        }
-    }
-    return true;
+    return from >= to || memcmp(lent->memory + from, pattern(to) + from, to - from) == 0;
 }
 
 static bool canaries_whole(const Lent *lent) {
@@ -110,8 +112,8 @@ static void call_check(const Subject *subject, const uint8_t *file, size_t lengt
     note_answer(call, subject->check(slice(&call->file), length, slice(&call->answer), answer_length));
 }
 
-static void call_carry(const Subject *subject, const Case *made, Call *call) {
-    lend_all(call, made->file, made->length, made->output_length, made->carry_answer_length);
+static void call_carry(const Subject *subject, const uint8_t *file, const Case *made, Call *call) {
+    lend_all(call, file, made->length, made->output_length, made->carry_answer_length);
     note_answer(call, subject->carry(slice(&call->file), made->length, made->horizon, slice(&call->output), made->output_length,
                                      slice(&call->answer), made->carry_answer_length));
 }
@@ -217,6 +219,8 @@ typedef struct {
     const char *path;
     Tally tally;
     Case made;
+    uint8_t long_file[MOST_LONG_BYTES];
+    const uint8_t *file; /* of the case that is tried; its length and its slices are those of made */
     Call subject_call, oracle_call;
 } Trial;
 
@@ -248,13 +252,14 @@ static void report(Trial *trial, uint64_t number, const char *call, const char *
     if (trial->reports > MOST_REPORTS) {
         return;
     }
-    printf("seed %" PRIu64 " case %" PRIu64 " %s: %s\n", trial->seed, number, call, wrong);
+    const char *which = trial->file == trial->long_file ? "long case" : "case";
+    printf("seed %" PRIu64 " %s %" PRIu64 " %s: %s\n", trial->seed, which, number, call, wrong);
     printf("  file %zu bytes, carried to %" PRIu32 ", output %zu bytes, answer slices %zu and %zu bytes\n", made->length,
            made->horizon, made->output_length, made->check_answer_length, made->carry_answer_length);
     print_call(trial->subject->name, &trial->subject_call);
     print_call(the_oracle.name, &trial->oracle_call);
     if (trial->reports == 1 && trial->path != NULL) {
-        write_to(trial->path, made->file, made->length);
+        write_to(trial->path, trial->file, made->length);
     }
 }
 
@@ -269,32 +274,32 @@ static const char *judge_idling(Trial *trial) {
     const Call *call = &trial->oracle_call;
     uint32_t place[3] = {0, 0, 0};
     bool rule_8 = call->returned == 3 && call->numbers[1] == 8;
-    if (!trial->self || !call->answered || !(rule_8 || call->returned <= 2) || !literal_applies(trial->made.file)) {
+    if (!trial->self || !call->answered || !(rule_8 || call->returned <= 2) || !literal_applies(trial->file)) {
         return NULL;
     }
     trial->tally.literal_idling++;
-    bool broken = literal_idling(trial->made.file, place);
+    bool broken = literal_idling(trial->file, place);
     bool same = broken == rule_8 && (!broken || memcmp(place, call->numbers + 2, sizeof place) == 0);
     return same ? NULL : "rule 8, read tick by tick, says otherwise";
 }
 
 static const char *try_check(Trial *trial) {
     const Case *made = &trial->made;
-    call_check(trial->subject, made->file, made->length, made->check_answer_length, &trial->subject_call);
-    call_check(&the_oracle, made->file, made->length, made->check_answer_length, &trial->oracle_call);
+    call_check(trial->subject, trial->file, made->length, made->check_answer_length, &trial->subject_call);
+    call_check(&the_oracle, trial->file, made->length, made->check_answer_length, &trial->oracle_call);
     meet(&trial->tally.check, &trial->oracle_call);
     if (made->permitted && trial->oracle_call.answered && trial->oracle_call.returned > 2) {
         return "the run of a server without a fault is not accepted";
     }
-    return first_of(judge_calls(trial, made->file), judge_idling(trial));
+    return first_of(judge_calls(trial, trial->file), judge_idling(trial));
 }
 
 static const char *try_carry(Trial *trial) {
     const Case *made = &trial->made;
-    call_carry(trial->subject, made, &trial->subject_call);
-    call_carry(&the_oracle, made, &trial->oracle_call);
+    call_carry(trial->subject, trial->file, made, &trial->subject_call);
+    call_carry(&the_oracle, trial->file, made, &trial->oracle_call);
     meet(&trial->tally.carry, &trial->oracle_call);
-    return judge_calls(trial, made->file);
+    return judge_calls(trial, trial->file);
 }
 
 /* The outputs are known to be the same file: both checkers must accept it. */
@@ -310,7 +315,7 @@ static const char *try_carried_file(Trial *trial) {
     }
     if (trial->self && literal_applies(carried)) {
         trial->tally.literal_carried++;
-        if (!literal_carried(trial->made.file, carried)) {
+        if (!literal_carried(trial->file, carried)) {
             return "carrying, read tick by tick, says otherwise";
         }
     }
@@ -318,8 +323,7 @@ static const char *try_carried_file(Trial *trial) {
 }
 
 /* Whether the case went without a difference. Carrying is tried even where checking differs: it tells more. */
-static bool try_case(Trial *trial, uint64_t number) {
-    make_case(trial->seed, number, &trial->made);
+static bool try_made(Trial *trial, uint64_t number) {
     const char *wrong = try_check(trial);
     bool same = wrong == NULL;
     if (wrong != NULL) {
@@ -337,6 +341,18 @@ static bool try_case(Trial *trial, uint64_t number) {
     return same && wrong == NULL;
 }
 
+static bool try_case(Trial *trial, uint64_t number) {
+    make_case(trial->seed, number, &trial->made);
+    trial->file = trial->made.file;
+    return try_made(trial, number);
+}
+
+static bool try_long_case(Trial *trial, uint64_t number) {
+    make_long_case(trial->seed, number, &trial->made, trial->long_file);
+    trial->file = trial->long_file;
+    return try_made(trial, number);
+}
+
 /* ---- the program ---- */
 
 static void print_tally(const Trial *trial) {
@@ -350,14 +366,37 @@ static void print_tally(const Trial *trial) {
     }
 }
 
+static void count_case(Counted *sum, bool same) {
+    sum->passed += same;
+    sum->failed += !same;
+}
+
+/* They are told apart from the other cases: each fault that a long file can have, and a carry into a long output, must be met. */
+static void try_long_cases(Trial *trial, Counted *sum) {
+    static const uint32_t refusals[] = {2, 4, 7, 8};
+    Tally others = trial->tally;
+    trial->tally = (Tally){0};
+    for (uint64_t number = 0; number < LONG_CASES; number++) {
+        count_case(sum, try_long_case(trial, number));
+    }
+    const Met *check = &trial->tally.check, *carry = &trial->tally.carry;
+    printf("long files: %d cases, to %d bytes\n", LONG_CASES, MOST_LONG_BYTES);
+    print_counts("answers", carry->answers, 0, 5);
+    print_counts("refusals", check->refusals, 1, 11);
+    for (size_t i = 0; i < sizeof refusals / sizeof *refusals; i++) {
+        sum->failed += never_met("in a long file refusal", check->refusals, carry->refusals, refusals[i], refusals[i]);
+    }
+    sum->failed += never_met("with long slices answer", check->answers, carry->answers, CARRIED, CARRIED);
+    trial->tally = others;
+}
+
 static int try_all(Trial *trial, uint64_t count) {
     Counted sum = try_worked_runs(trial->subject);
     for (uint64_t number = 0; number < count; number++) {
-        bool same = try_case(trial, number);
-        sum.passed += same;
-        sum.failed += !same;
+        count_case(&sum, try_case(trial, number));
     }
     print_tally(trial);
+    try_long_cases(trial, &sum);
     if (count >= ENOUGH_CASES) {
         sum.failed += never_met_at_all(&trial->tally);
     }
