@@ -7,25 +7,24 @@ use lib.ListN.{length, take, getD, length-map}
 use Rattle.model.specs.declared.setting.Setting.{Setting}
 use Rattle.model.specs.declared.task.Task.{Task}
 use Rattle.model.specs.declared.record.Record.{Record}
-use Rattle.model.specs.Model.{Run, Job, mostTime, mostJobs, noRecord, task, rec, jobs, totalJobs, arrival, rank, ready}
+use Rattle.model.specs.Model.{Run, Job, mostJobs, noRecord, task, rec, jobs, totalJobs, arrival, rank, ready}
 use Rattle.model.specs.Rules.{Obeys}
 use Rattle.model.specs.File.{bytes}
 use Rattle.model.specs.Carry.{atH, opening, carried}
-use Rattle.model.specs.Compute.Jumps.{waiting, startAll}
 use Rattle.model.proofs.Jobs.{length-jobs}
 use Rattle.model.proofs.RoundTrip.{length-bytes}
-use Rattle.carrying.proofs.Begin.{Going}
 use Rattle.carrying.proofs.AtH.{opening-jobs, job-exists}
-use Rattle.carrying.proofs.Carried.{good-tasks, going₀}
-use Rattle.carrying.proofs.Columns.{carried-starts, opening-records, opening-task, opening-number, carried-task, carried-number, carried-release, opening-bounds}
+use Rattle.carrying.proofs.Carried.{good-tasks}
+use Rattle.carrying.proofs.Columns.{opening-records, opening-task, opening-number, carried-task, carried-number, carried-release}
 use Rattle.carrying.proofs.Demand3.{carried-setting, carried-tasks}
 use Rattle.rules.specs.Columns.{jobsOf, duesFrom}
 use Rattle.rules.proofs.Fill.{jobs-front}
+use Rattle.rules.proofs.Write.{length-dues}
 use Rattle.rules.proofs.Tied.{jobs-of, number-at, due-tied}
 use Rattle.verdict.specs.Lent.{Lent}
 use Rattle.verdict.proofs.Tied.{task-same}
 use Rattle.verdict.proofs.OfLent.{tasks-lent}
-use Rattle.starts.specs.Columns.{Stands}
+use Rattle.starts.specs.Columns.{Opened}
 
 -- the jobs that exist, where they are put to the front of a column
 pub front-jobs : (f : Job → ℕ) (τs : List Task) (H : ℕ) (rest : List ℕ) {k : ℕ} {xs : List ℕ} → k ≡ totalJobs τs H → xs ≡ map f (jobs τs H) ++ rest
@@ -43,13 +42,6 @@ module _ {ρ : Run} {σ : Setting} {τs : List Task} {n : ℕ} {is js rs ss es c
 
       abbrev few-run : totalJobs (ρ .tasks) H′ ≤ mostJobs
       few-run = rw total-lent at few
-
-      pub going : Going (opening ρ H′) (σ .horizon) mostTime (waiting (opening ρ H′)) (σ .horizon) (opening ρ H′)
-      going = rw (l .setting) (going₀ ρ (l .limits) H′ O longer-run most few-run)
-
-      pub greatest : (i : ℕ) → task τs i .greatest ≤ 1000000
-      unfolding opening
-      greatest i = rw (task-same l i) (going .able .most i)
 
       pub setting-stays : carried ρ H′ .setting ≡ record { cores = σ .cores; horizon = H′ }
       setting-stays = rw (l .setting) (carried-setting ρ H′ (l .limits) O longer-run most few-run)
@@ -100,31 +92,6 @@ module _ {ρ : Run} {σ : Setting} {τs : List Task} {n : ℕ} {is js rs ss es c
     records : length ws ≡ length (opening ρ H′ .records)
     records = ap length opened-task ∙ length-map (opening ρ H′ .records) (λ (x : Record). x .task)
 
-    pub stands : {rs′ ds ss′ es′ cs′ : List ℕ}
-        → (rs′ ≡ map (λ (x : Record). x .release) (map (atH ρ) (jobsOf ws ns)))
-        × (ss′ ≡ map (λ (x : Record). x .start) (map (atH ρ) (jobsOf ws ns)))
-        × (es′ ≡ map (λ (x : Record). x .end) (map (atH ρ) (jobsOf ws ns)))
-        × (cs′ ≡ map (λ (x : Record). x .core) (map (atH ρ) (jobsOf ws ns)))
-        → ds ≡ duesFrom τs ws ns 0 (length ws)
-        → Stands (opening ρ H′) (σ .cores) τs ws rs′ ds ss′ es′ cs′
-    unfolding opening rank ready
-    stands o d =
-        record {
-          jobs = opening-jobs ρ H′;
-          cores = ap (λ (s : Setting). s .cores) (l .setting);
-          tasks = task-same l;
-          task = opened-task;
-          ready = λ k h. opened-at (λ x. x .release) (opened (λ x. x .release) (o .0)) refl k;
-          rank =
-              λ k h.
-              ap (λ xs. getD xs k 0) d
-              ∙ (λ κ. getD (duesFrom τs (opened-task κ) (opened-job κ) 0 (length ws)) k 0)
-              ∙ due-tied (opening ρ H′) τs (task-same l) (length ws) k (omega (arith, records));
-          start = opened (λ x. x .start) (o .1);
-          end = opened (λ x. x .end) (o .2);
-          core = opened (λ x. x .core) (o .3);
-        }
-
     -- the columns of the file
     pub task-stays : ws ≡ map (λ (x : Record). x .task) (carried ρ H′ .records)
     task-stays = whose ∙ sym (carried-task ρ H′)
@@ -135,13 +102,6 @@ module _ {ρ : Run} {σ : Setting} {τs : List Task} {n : ℕ} {is js rs ss es c
     pub release-stays : {xs : List ℕ} → xs ≡ map (λ (x : Record). x .release) (map (atH ρ) (jobsOf ws ns))
         → xs ≡ map (λ (x : Record). x .release) (carried ρ H′ .records)
     release-stays e = opened (λ x. x .release) e ∙ sym (carried-release ρ H′)
-
-    pub started : (f : Record → ℕ) {xs : List ℕ} → xs ≡ map f (startAll (waiting (opening ρ H′)) (σ .horizon) (opening ρ H′) .records)
-        → xs ≡ map f (carried ρ H′ .records)
-    started f e =
-        e
-        ∙ (λ κ. map f (startAll (waiting (opening ρ H′)) (l .setting κ .horizon) (opening ρ H′) .records))
-        ∙ ap (λ r. map f (r .records)) (sym (carried-starts ρ H′))
 
     pub few-jobs : length ws ≤ 512 → totalJobs (take n τs) H′ ≤ 512
     few-jobs h = omega (arith, ap length w, length-map (jobs (take n τs) H′) (λ (q : Job). q .0), length-jobs (take n τs) H′)
@@ -157,12 +117,40 @@ module _ {ρ : Run} {σ : Setting} {τs : List Task} {n : ℕ} {is js rs ss es c
           let b = job-exists ρ H′ O (good-tasks ρ (l .limits)) (rw (l .setting) at longer) k (omega (arith, records)) .1 in
           rw e (omega (arith, b))
 
-      pub bounded : {rs′ ss′ es′ cs′ : List ℕ}
+      pub is-opened : {rs′ ds ss′ es′ cs′ : List ℕ}
           → (rs′ ≡ map (λ (x : Record). x .release) (map (atH ρ) (jobsOf ws ns)))
           × (ss′ ≡ map (λ (x : Record). x .start) (map (atH ρ) (jobsOf ws ns)))
           × (es′ ≡ map (λ (x : Record). x .end) (map (atH ρ) (jobsOf ws ns)))
           × (cs′ ≡ map (λ (x : Record). x .core) (map (atH ρ) (jobsOf ws ns)))
-          → (k : ℕ) → (getD rs′ k 0 ≤ 2000000) × (getD es′ k 0 ≤ 2000000) × (getD cs′ k 0 ≤ 16)
-      bounded o k =
-          rw (opened-at (λ x. x .release) (opened (λ x. x .release) (o .0)) refl k, opened-at (λ x. x .end) (opened (λ x. x .end) (o .2)) refl k, opened-at (λ x. x .core) (opened (λ x. x .core) (o .3)) refl k)
-          (opening-bounds ρ (l .limits) H′ O (rw (l .setting) at longer) most (rw (total-lent H′) at (few-jobs few)) k)
+          → ds ≡ duesFrom τs ws ns 0 (length ws)
+          → Opened ρ H′ (σ .horizon) (σ .cores) τs ws rs′ ds ss′ es′ cs′
+      unfolding opening rank ready
+      is-opened o d =
+          record {
+            limits = l .limits;
+            obeys = O;
+            horizon = ap (λ (s : Setting). s .horizon) (l .setting);
+            longer = longer;
+            most = most;
+            few = rw (total-lent H′) at (few-jobs few);
+            columns =
+                record {
+                  jobs = opening-jobs ρ H′;
+                  cores = ap (λ (s : Setting). s .cores) (l .setting);
+                  tasks = task-same l;
+                  task = opened-task;
+                  ready =
+                      let e = opened (λ x. x .release) (o .0) in
+                      (ap length e ∙ length-map (opening ρ H′ .records) (λ (x : Record). x .release), λ k h. opened-at (λ x. x .release) e refl k);
+                  rank = (
+                    ap length d ∙ length-dues τs ws ns 0 (length ws) ∙ records,
+                    λ k h.
+                        ap (λ xs. getD xs k 0) d
+                        ∙ (λ κ. getD (duesFrom τs (opened-task κ) (opened-job κ) 0 (length ws)) k 0)
+                        ∙ due-tied (opening ρ H′) τs (task-same l) (length ws) k (omega (arith, records)),
+                  );
+                  start = opened (λ x. x .start) (o .1);
+                  end = opened (λ x. x .end) (o .2);
+                  core = opened (λ x. x .core) (o .3);
+                };
+          }

@@ -7,7 +7,7 @@ use Rattle.starts.proofs.start_all.Reads as start-all
 pub start-all-once : Once start-all.Pre start-all.Post (λ r exit.
     now (exit .1 .1 .1 .1 .1 .1 .0) also now (exit .1 .1 .1 .1 .1 .1 .1 .0) also now (exit .1 .1 .1 .1 .1 .1 .1 .1 .0))
 start-all-once κs args pre r r′ exit exit′ p q =
-    let (σ, stands, going) = pre .11 in
-    let s = p σ stands going in
-    let t = q σ stands going in
+    let (ρ, H′, opened) = pre in
+    let s = p ρ H′ opened in
+    let t = q ρ H′ opened in
     both (s .0 ∙ sym (t .0)) (both (s .1 ∙ sym (t .1)) (s .2 ∙ sym (t .2)))

@@ -4,14 +4,13 @@ use mathlib.Core.Path.{_≡_, refl, sym, _∙_, ap}
 use mathlib.Core.Logic.{_⊎_, inl, inr}
 use mathlib.Core.List.{List, [], _∷_, map}
 use native.Mathlib.Omega.{arith}
-use lib.ListN.{length, getD, set, length-map}
+use lib.ListN.{length, getD, set, length-map, length-set, List·getD-map}
 use lib.Seq.{map-set-same}
 use Rattle.model.specs.declared.task.Task.{Task}
 use Rattle.model.specs.declared.record.Record.{Record}
 use Rattle.model.specs.Model.{Run, IsRecord, rec, task, taskOf, jobOf, noRecord}
 use Rattle.model.specs.Carry.{begun, starts}
 use Rattle.carrying.proofs.Depends.{existing-jobs}
-use Rattle.carrying.proofs.Recorded.{at-map}
 use Rattle.carrying.proofs.Step.{is-record, ready-stays, rank-stays}
 use Rattle.carrying.proofs.NextStart.{LastEnd, LeastFree}
 use Rattle.starts.specs.Columns.{Stands}
@@ -33,28 +32,31 @@ module _ {σ : Run} {N : ℕ} {τs : List Task} {is rs ds ss es cs : List ℕ} (
   pub record-of : (k : ℕ) → k < length cs → IsRecord σ k
   record-of k h = omega (arith, size-of)
 
-  pub core-of : (k : ℕ) → IsRecord σ k → getD cs k 0 ≡ rec σ k .core
-  core-of k h = ap (λ l. getD l k 0) (S .core) ∙ at-map (λ (x : Record). x .core) (σ .records) k 0 noRecord h
+  -- one number of a record; where there is none, 0
+  number-of : (f : Record → ℕ) → f noRecord ≡ 0 → {xs : List ℕ} → xs ≡ map f (σ .records) → (k : ℕ) → getD xs k 0 ≡ f (rec σ k)
+  number-of f z e k = (λ κ. getD (e κ) k (sym z κ)) ∙ List·getD-map f (σ .records) k noRecord
 
-  end-of : (k : ℕ) → IsRecord σ k → getD es k 0 ≡ rec σ k .end
-  end-of k h = ap (λ l. getD l k 0) (S .end) ∙ at-map (λ (x : Record). x .end) (σ .records) k 0 noRecord h
+  pub core-of : (k : ℕ) → getD cs k 0 ≡ rec σ k .core
+  core-of = number-of (λ x. x .core) refl (S .core)
+
+  pub end-of : (k : ℕ) → getD es k 0 ≡ rec σ k .end
+  end-of = number-of (λ x. x .end) refl (S .end)
 
   -- the greatest time of the task of job k
-  time-of : (k : ℕ) → IsRecord σ k → task τs (getD is k 0) .greatest ≡ taskOf σ k .greatest
-  time-of k h =
-      let e : getD is k 0 ≡ rec σ k .task = ap (λ l. getD l k 0) (S .task) ∙ at-map (λ (x : Record). x .task) (σ .records) k 0 noRecord h in
-      rw e (ap (λ (x : Task). x .greatest) (S .tasks (rec σ k .task)))
+  time-of : (k : ℕ) → task τs (getD is k 0) .greatest ≡ taskOf σ k .greatest
+  time-of k =
+      rw (number-of (λ x. x .task) refl (S .task) k) (ap (λ (x : Task). x .greatest) (S .tasks (rec σ k .task)))
 
   pub last-end : {c e : ℕ} → LastOf (length cs) cs es c e → LastEnd σ c e
   last-end {c} {e} L =
       record {
-        none-later = λ k h w. let l = L .none-later k (omega (arith, size-of)) (core-of k h ∙ w) in omega (arith, end-of k h);
+        none-later = λ k h w. let l = L .none-later k (omega (arith, size-of)) (core-of k ∙ w) in omega (arith, end-of k);
         reached = go (L .reached);
       }
     where
       go : EndsAt (length cs) cs es c e → (e ≡ 0) ⊎ ((k : ℕ) × IsRecord σ k × (rec σ k .core ≡ c) × (rec σ k .end ≡ e))
       go (inl z) = inl z
-      go (inr (k, l, p, q)) = let h = record-of k l in inr (k, h, sym (core-of k h) ∙ p, sym (end-of k h) ∙ q)
+      go (inr (k, l, p, q)) = inr (k, record-of k l, sym (core-of k) ∙ p, sym (end-of k) ∙ q)
 
   pub least-free : N ≤ 16 → {xs : List ℕ} → Lasts (length cs) cs es xs → {f : ℕ} → LeastOf xs (N + 1) f → LeastFree σ f
   least-free few {xs} L F =
@@ -78,8 +80,8 @@ module _ {σ : Run} {N : ℕ} {τs : List Task} {is rs ds ss es cs : List ℕ} (
         cores = S .cores;
         tasks = S .tasks;
         task = S .task ∙ sym (map-set-same (λ (x : Record). x .task) (σ .records) k x noRecord refl);
-        ready = λ a l. S .ready a (is-record σ u k c h a l) ∙ sym (ready-stays σ u k c h a);
-        rank = λ a l. S .rank a (is-record σ u k c h a l) ∙ sym (rank-stays σ u k c h a);
+        ready = (S .ready .0 ∙ same, λ a l. S .ready .1 a (is-record σ u k c h a l) ∙ sym (ready-stays σ u k c h a));
+        rank = (S .rank .0 ∙ same, λ a l. S .rank .1 a (is-record σ u k c h a l) ∙ sym (rank-stays σ u k c h a));
         start = ap (λ l. set l k u) (S .start) ∙ sym (map-set (λ (x : Record). x .start) (σ .records) k x);
         end = ended;
         core = ap (λ l. set l k c) (S .core) ∙ sym (map-set (λ (x : Record). x .core) (σ .records) k x);
@@ -88,7 +90,10 @@ module _ {σ : Run} {N : ℕ} {τs : List Task} {is rs ds ss es cs : List ℕ} (
       x : Record
       x = begun σ u k c
 
+      same : length (σ .records) ≡ length (set (σ .records) k x)
+      same = sym (length-set (σ .records) k x)
+
       ended : set es k e ≡ map (λ (x : Record). x .end) (starts σ u k c .records)
       ended =
-          let z : e ≡ u + taskOf σ k .greatest = w ∙ ap (λ g. u + g) (time-of k h) in
+          let z : e ≡ u + taskOf σ k .greatest = w ∙ ap (λ g. u + g) (time-of k) in
           rw (z, S .end) (sym (map-set (λ (x : Record). x .end) (σ .records) k x))

@@ -102,22 +102,22 @@ module _ {σ : Run} {N : ℕ} {τs : List Task} {is rs ds ss es cs : List ℕ} (
     record-here = record-of S k (C .range)
 
     waits-here : rec σ k .core ≡ 0
-    waits-here = sym (core-of S k record-here) ∙ C .waits
+    waits-here = sym (core-of S k) ∙ C .waits
 
     from-chosen : (j : ℕ) → IsRecord σ j → rec σ j .core ≡ 0 → NoLater u (getD ds k 0) k (max v (getD rs j 0)) (getD ds j 0) j
-    from-chosen j h z = C .first j (omega (arith, size-of S)) (core-of S j h ∙ z)
+    from-chosen j h z = C .first j (omega (arith, size-of S)) (core-of S j ∙ z)
 
     is-next : IsNext σ u k
     is-next =
         record {
           range = record-here;
-          can = (waits-here, omega (arith, C .at, S .ready k record-here));
-          first = λ j h w. go j h w (from-chosen j h (w .0)) (S .rank k record-here) (S .rank j h);
+          can = (waits-here, omega (arith, C .at, S .ready .1 k record-here));
+          first = λ j h w. go j h w (from-chosen j h (w .0)) (S .rank .1 k record-here) (S .rank .1 j h);
         }
       where
         go : (j : ℕ) → IsRecord σ j → CanStart σ u j → NoLater u (getD ds k 0) k (max v (getD rs j 0)) (getD ds j 0) j
             → getD ds k 0 ≡ rank σ k → getD ds j 0 ≡ rank σ j → ¬ GoesBefore σ j k
-        go j h w (inl l) p q b = omega (arith, w .1, S .ready j h, C .at)
+        go j h w (inl l) p q b = omega (arith, w .1, S .ready .1 j h, C .at)
         go j h w (inr (e, inl l)) p q (inl b) = omega arith
         go j h w (inr (e, inl l)) p q (inr b) = omega (arith, b .0)
         go j h w (inr (e, inr l)) p q (inl b) = omega (arith, l .0)
@@ -165,7 +165,7 @@ module _ {σ : Run} {N : ℕ} {τs : List Task} {is rs ds ss es cs : List ℕ} (
             let (j, c, s, G′) = jump-on σ₀ H w m t σ G r f A (least-free S few L F) in
             let b = A .least k (record-here C) (waits-here C) in
             let d = no-sooner (from-chosen C (A .job) (A .range) (A .waits)) in
-            let z : max t (max r f) ≡ u = omega (arith, C .at, S .ready k (record-here C), S .ready (A .job) (A .range), A .here) in
+            let z : max t (max r f) ≡ u = omega (arith, C .at, S .ready .1 k (record-here C), S .ready .1 (A .job) (A .range), A .here) in
             let x : startAt σ u ≡ some (j, c) = rw z at s in
             let q : _≡_ {A = ℕ × ℕ} (j, c) (k, T .core) = cc (start-here) in
             let g : Going σ₀ H w m u (starts σ u j c) = rw z at G′ in

@@ -1,6 +1,6 @@
 -- All turns of the carry: what holds between two of them, and what is left at the end. Assumes nothing.
 use Prim.Native.Nat.{ℕ, zero, suc, _+_, _*_, _-_, _≤_, _<_, max}
-use mathlib.Core.Path.{_≡_, sym, _∙_, ap, subst}
+use mathlib.Core.Path.{_≡_, refl, sym, _∙_, ap, subst}
 use mathlib.Core.Logic.{_⊎_, inl, inr}
 use mathlib.Core.List.{List, map}
 use native.Mathlib.Omega.{arith}
@@ -8,16 +8,18 @@ use lib.ListN.{length, getD, set, length-set}
 use Rattle.model.specs.declared.task.Task.{Task}
 use Rattle.model.specs.declared.record.Record.{Record}
 use Rattle.model.specs.Model.{Run, IsRecord, mostTime, task}
-use Rattle.model.specs.Carry.{starts}
+use Rattle.model.specs.Carry.{starts, opening, carried}
 use Rattle.model.specs.Compute.Jumps.{waiting, startAll}
 use Rattle.carrying.proofs.Waiting.{Waits, waits, waiting-size}
 use Rattle.carrying.proofs.Begin.{Going, going-done}
-use Rattle.starts.specs.Columns.{Stands}
+use Rattle.carrying.proofs.Columns.{carried-starts}
+use Rattle.starts.specs.Columns.{Stands, Opened}
 use Rattle.starts.specs.Choice.{Chosen}
 use Rattle.starts.specs.Cores.{EndsAt, Lasts, LeastOf, Takes}
 use Rattle.starts.specs.declared.cores.Taken.{Taken}
 use Rattle.starts.proofs.Taking.{at-set, end-added}
 use Rattle.starts.proofs.Standing.{size-of, core-of, record-of, stands-on}
+use Rattle.starts.proofs.Opened.{going, cores, greatest, lengths, few-jobs, soon, ended}
 use Rattle.starts.proofs.Turn.{turn}
 
 -- after N - left starts all is released and has ended by then
@@ -41,6 +43,29 @@ pub record Kept (N n : ℕ) (τs : List Task) (rs ds ss es cs : List ℕ) (T : T
   pub below : (k : ℕ) → getD es k 0 ≤ most N left
   pub lasts : Lasts N cs es (T .ends)
   pub least : LeastOf (T .ends) (n + 1) (T .least)
+
+-- before the first turn
+pub kept-first : {ρ : Run} {H′ H n : ℕ} {τs : List Task} {is rs ds ss es cs : List ℕ} → Opened ρ H′ H n τs is rs ds ss es cs → {T : Taken}
+    → Lasts (length cs) cs es (T .ends) → LeastOf (T .ends) (n + 1) (T .least) → Kept (length is) n τs rs ds ss es cs T H (length is)
+kept-first X L F =
+    let l = lengths X in
+    record {
+      some-core = cores X .0;
+      few-cores = cores X .1;
+      few-jobs = few-jobs X;
+      few-turns = omega arith;
+      ready = l .0;
+      rank = l .1;
+      start = l .2;
+      end = l .3;
+      core = l .4;
+      soon = soon X;
+      short = greatest X;
+      now = omega (arith, X .longer, X .most);
+      below = λ k. omega (arith, ended X k);
+      lasts = rw (l .4) at L;
+      least = F;
+    }
 
 -- Job k is to start at u.
 pub record Turning (N n : ℕ) (τs : List Task) (rs ds ss es cs : List ℕ) (T : Taken) (t left u k : ℕ) : Type 0 where
@@ -104,27 +129,43 @@ Reached n H τs is rs ds ss es cs t left σ₀ =
     (m : ℕ) × (σ : Run) × (m ≤ left) × Stands σ n τs is rs ds ss es cs × Going σ₀ H mostTime m t σ
 
 -- the columns that are wanted
-abbrev Carried : ℕ → Run → (ss es cs : List ℕ) → Type 0
-Carried H σ ss es cs =
-    (ss ≡ map (λ (x : Record). x .start) (startAll (waiting σ) H σ .records))
-    × (es ≡ map (λ (x : Record). x .end) (startAll (waiting σ) H σ .records))
-    × (cs ≡ map (λ (x : Record). x .core) (startAll (waiting σ) H σ .records))
+abbrev Wanted : Run → (ss es cs : List ℕ) → Type 0
+Wanted σ ss es cs =
+    (ss ≡ map (λ (x : Record). x .start) (σ .records))
+    × (es ≡ map (λ (x : Record). x .end) (σ .records))
+    × (cs ≡ map (λ (x : Record). x .core) (σ .records))
 
--- From each run with the first columns the carry has come to a run with the present columns, with no more jobs to begin than turns.
+-- From what stands at H with the first columns the carry has come to a run with the present columns, with no more jobs to begin than
+-- turns; and the columns are as long as they were.
 pub record Comes (n H : ℕ) (τs : List Task) (is rs ds ss₀ es₀ cs₀ ss es cs : List ℕ) (t left : ℕ) : Type 0 where
-  pub going : (σ₀ : Run) → Stands σ₀ n τs is rs ds ss₀ es₀ cs₀ → Going σ₀ H mostTime (waiting σ₀) H σ₀
-      → Reached n H τs is rs ds ss es cs t left σ₀
+  pub start : length ss ≡ length ss₀
+  pub end : length es ≡ length es₀
+  pub core : length cs ≡ length cs₀
+  pub reached : (ρ : Run) (H′ : ℕ) → Opened ρ H′ H n τs is rs ds ss₀ es₀ cs₀ → Reached n H τs is rs ds ss es cs t left (opening ρ H′)
 
 module _ {n H : ℕ} {τs : List Task} {is rs ds ss₀ es₀ cs₀ : List ℕ} where
-  pub comes-first : {left : ℕ} → length cs₀ ≡ left → Comes n H τs is rs ds ss₀ es₀ cs₀ ss₀ es₀ cs₀ H left
-  comes-first e =
-      record { going = λ σ S G. (waiting σ, σ, omega (arith, waiting-size σ, size-of S), S, G) }
+  pub comes-first : Comes n H τs is rs ds ss₀ es₀ cs₀ ss₀ es₀ cs₀ H (length is)
+  comes-first =
+      record {
+        start = refl;
+        end = refl;
+        core = refl;
+        reached = λ ρ H′ X.
+            let σ = opening ρ H′ in
+            (waiting σ, σ, omega (arith, waiting-size σ, size-of (X .columns), lengths X .4), X .columns, going X);
+      }
 
   module _ {ss es cs : List ℕ} {t left : ℕ} (Z : Comes n H τs is rs ds ss₀ es₀ cs₀ ss es cs t left) where
     pub comes-on : {N : ℕ} {T : Taken} {u k : ℕ} → Turning N n τs rs ds ss es cs T t left u k → {w : ℕ} → w ≡ task τs (getD is k 0) .greatest
         → {T′ : Taken} → Takes (T .ends) n u (u + w) T′
         → Comes n H τs is rs ds ss₀ es₀ cs₀ (set ss k u) (set es k (u + w)) (set cs k (T′ .core)) u (left - 1)
-    comes-on {T = T} {u = u} {k = k} X {w} e {T′} E = record { going = λ σ₀ S₀ G₀. go σ₀ (Z .going σ₀ S₀ G₀) }
+    comes-on {T = T} {u = u} {k = k} X {w} e {T′} E =
+        record {
+          start = length-set ss k u ∙ Z .start;
+          end = length-set es k (u + w) ∙ Z .end;
+          core = length-set cs k (T′ .core) ∙ Z .core;
+          reached = λ ρ H′ O. go (opening ρ H′) (Z .reached ρ H′ O);
+        }
       where
         lasts : Lasts (length cs) cs es (T .ends)
         lasts = subst (λ N. Lasts N cs es (T .ends)) (sym (X .kept .core)) (X .kept .lasts)
@@ -137,7 +178,7 @@ module _ {n H : ℕ} {τs : List Task} {is rs ds ss₀ es₀ cs₀ : List ℕ} w
             here = record-of S k (X .chosen .range)
 
             someone : Waits σ → waiting σ ≡ 0 → ⊥
-            someone (Waits.nobody z g) y = omega (arith, g k here, X .chosen .waits, core-of S k here)
+            someone (Waits.nobody z g) y = omega (arith, g k here, X .chosen .waits, core-of S k)
             someone (Waits.one i z j h c) y = omega arith
         go σ₀ (suc m, σ, l, S, G) = (
           m,
@@ -148,15 +189,17 @@ module _ {n H : ℕ} {τs : List Task} {is rs ds ss₀ es₀ cs₀ : List ℕ} w
         )
 
     -- no turn is left, or no job waits
-    pub comes-done : (left ≡ 0) ⊎ ((j : ℕ) → j < length cs → ¬ (getD cs j 0 ≡ 0)) → (σ : Run) → Stands σ n τs is rs ds ss₀ es₀ cs₀
-        → Going σ H mostTime (waiting σ) H σ → Carried H σ ss es cs
-    comes-done why σ₀ S₀ G₀ = go (Z .going σ₀ S₀ G₀)
+    pub comes-done : (left ≡ 0) ⊎ ((j : ℕ) → j < length cs → ¬ (getD cs j 0 ≡ 0)) → (ρ : Run) (H′ : ℕ)
+        → Opened ρ H′ H n τs is rs ds ss₀ es₀ cs₀ → Wanted (carried ρ H′) ss es cs
+    comes-done why ρ H′ X =
+        rw (carried-starts ρ H′ ∙ ap (λ h. startAll (waiting (opening ρ H′)) h (opening ρ H′)) (sym (X .horizon)))
+        (go (opening ρ H′) (Z .reached ρ H′ X))
       where
-        go : Reached n H τs is rs ds ss es cs t left σ₀ → Carried H σ₀ ss es cs
-        go (m, σ, l, S, G) = rw (going-done σ₀ H mostTime t σ (rw (over why (waits σ)) at G) .1) (S .start, S .end, S .core)
+        go : (σ₀ : Run) → Reached n H τs is rs ds ss es cs t left σ₀ → Wanted (startAll (waiting σ₀) H σ₀) ss es cs
+        go σ₀ (m, σ, l, S, G) = rw (going-done σ₀ H mostTime t σ (rw (over why (waits σ)) at G) .1) (S .start, S .end, S .core)
           where
             over : (left ≡ 0) ⊎ ((j : ℕ) → j < length cs → ¬ (getD cs j 0 ≡ 0)) → Waits σ → m ≡ 0
             over (inl z) v = omega arith
             over (inr f) (Waits.nobody z g) = omega (arith, G .left)
             over (inr f) (Waits.one i z j h c) =
-                absurd (f j (omega (arith, size-of S)) (core-of S j h ∙ c))
+                absurd (f j (omega (arith, size-of S)) (core-of S j ∙ c))

@@ -10,13 +10,11 @@ use cores::take_core;
 use model::Tasks;
 ghost use mathlib.Core.Path.{_≡_};
 ghost use mathlib.Core.List.{map};
-ghost use Prim.Native.Nat.{ℕ, _≤_};
-ghost use lib.ListN.{length, getD};
-ghost use Rattle.carrying.proofs.Begin.{Going};
-ghost use Rattle.model.specs.Compute.Jumps.{waiting, startAll};
-ghost use Rattle.model.specs.Model.{Run, mostTime, task as taskIn};
+ghost use Prim.Native.Nat.{ℕ};
+ghost use Rattle.model.specs.Carry.{carried};
+ghost use Rattle.model.specs.Model.{Run, task as taskIn};
 ghost use Rattle.model.specs.declared.record.Record.{Record};
-ghost use Rattle.starts.specs.Columns.{Stands};
+ghost use Rattle.starts.specs.Columns.{Opened};
 
 // The greatest time of a task; 0 where there is no such task.
 fn greatest_time(tasks: Tasks, i: u32) -> u32
@@ -41,25 +39,13 @@ pub fn start_all(
     end: &mut [u32],
     core: &mut [u32],
 )
-    requires { ⌜ (1 ≤ n) × (n ≤ 16)
-        × (horizon ≤ 1000000)
-        × (length (now ready) ≡ length (now task))
-        × (length (now rank) ≡ length (now task))
-        × (length (now start) ≡ length (now task))
-        × (length (now end) ≡ length (now task))
-        × (length (now core) ≡ length (now task))
-        × (length (now task) ≤ 512)
-        × ((k : ℕ) → (getD (now ready) k 0 ≤ 2000000) × (getD (now end) k 0 ≤ 2000000) × (getD (now core) k 0 ≤ 16))
-        × ((i : ℕ) → taskIn (tasks .list) i .greatest ≤ 1000000)
-        × ((σ : Run)
-        × Stands σ n (tasks .list) (now task) (now ready) (now rank) (now start) (now end) (now core)
-        × Going σ horizon mostTime (waiting σ) horizon σ) ⌝ }
-    ensures { λ _. ⌜ ((σ : Run)
-        → Stands σ n (tasks .list) (now (task .entry)) (now (ready .entry)) (now (rank .entry)) (now (start .entry)) (now (end .entry)) (now (core .entry))
-        → Going σ horizon mostTime (waiting σ) horizon σ
-        → (now (start .exit) ≡ map (λ (x : Record). x .start) (startAll (waiting σ) horizon σ .records))
-        × (now (end .exit) ≡ map (λ (x : Record). x .end) (startAll (waiting σ) horizon σ .records))
-        × (now (core .exit) ≡ map (λ (x : Record). x .core) (startAll (waiting σ) horizon σ .records))) ⌝ }
+    requires { ⌜ ((ρ : Run) × (H′ : ℕ)
+        × Opened ρ H′ horizon n (tasks .list) (now task) (now ready) (now rank) (now start) (now end) (now core)) ⌝ }
+    ensures { λ _. ⌜ ((ρ : Run) (H′ : ℕ)
+        → Opened ρ H′ horizon n (tasks .list) (now (task .entry)) (now (ready .entry)) (now (rank .entry)) (now (start .entry)) (now (end .entry)) (now (core .entry))
+        → (now (start .exit) ≡ map (λ (x : Record). x .start) (carried ρ H′ .records))
+        × (now (end .exit) ≡ map (λ (x : Record). x .end) (carried ρ H′ .records))
+        × (now (core .exit) ≡ map (λ (x : Record). x .core) (carried ρ H′ .records))) ⌝ }
 {
     let mut taken = free_cores(n, end, core);
     let mut t = horizon;

@@ -1,12 +1,13 @@
 -- All jobs that wait start, turn by turn. Assumes nothing.
 use Prim.Native.Nat.{_≤_}
-use mathlib.Core.Path.{ap}
+use mathlib.Core.Path.{sym, _∙_, ap}
 use mathlib.Core.Logic.{inl, inr}
 use native.Mathlib.Omega.{arith}
 use borrow.Author.Needs.{needs}
 use lib.ListN.{length, getD}
 use Rattle.base.specs.Find.{seenTwo}
-use Rattle.starts.proofs.Turns.{Kept, Turning, turning, core-free, kept-on, Comes, comes-first, comes-on, comes-done}
+use Rattle.starts.proofs.Opened.{cores, lengths, on-core}
+use Rattle.starts.proofs.Turns.{Kept, kept-first, Turning, turning, core-free, kept-on, Comes, comes-first, comes-on, comes-done}
 use Rattle.starts.proofs.start_all.Statement.{statement}
 use Rattle.starts.proofs.start_all.Tie as tie
 
@@ -33,31 +34,14 @@ found c =
 
 free-cores-requires : tie.Need-free-cores-requires Inv-loop μ-loop
 free-cores-requires c κs =
-    let p = c .before .before .before .before .before .before .before .before .pre in
-    (p .0, p .1, omega (arith, p .6, p .7), λ k. p .9 k .2)
+    let X = c .before .before .before .before .before .before .before .before .pre .2 in
+    let l = lengths X in
+    (cores X .0, cores X .1, l .3 ∙ sym (l .4), on-core X)
 
 loop-holds : tie.Need-loop-holds Inv-loop μ-loop
 loop-holds c =
-    let p = c .before .before .before .before .before .before .before .before .before .pre in (
-      record {
-        some-core = p .0;
-        few-cores = p .1;
-        few-jobs = p .8;
-        few-turns = omega arith;
-        ready = p .3;
-        rank = p .4;
-        start = p .5;
-        end = p .6;
-        core = p .7;
-        soon = λ k. p .9 k .0;
-        short = p .10;
-        now = omega (arith, p .2);
-        below = λ k. omega (arith, p .9 k .1);
-        lasts = rw (p .7) at (c .free-cores .ensures .0);
-        least = c .free-cores .ensures .1;
-      },
-      comes-first (p .7),
-    )
+    let X = c .before .before .before .before .before .before .before .before .before .pre .2 in
+    (kept-first X (c .free-cores .ensures .0) (c .free-cores .ensures .1), comes-first)
 
 later-requires : tie.Need-later-requires Inv-loop μ-loop
 later-requires c κs = search needs

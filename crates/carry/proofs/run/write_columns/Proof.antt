@@ -3,8 +3,8 @@ use mathlib.Core.Path.{refl, ap}
 use native.Mathlib.Omega.{arith}
 use borrow.Author.Needs.{needs}
 use Rattle.model.specs.declared.setting.Setting.{Setting}
-use Rattle.verdict.proofs.OfLent.{whole, cores-lent}
-use Rattle.carry.proofs.Columns.{going, greatest, setting-stays, tasks-stay, stands, task-stays, job-stays, release-stays, started, few-jobs, arrives, bounded}
+use Rattle.verdict.proofs.OfLent.{whole}
+use Rattle.carry.proofs.Columns.{setting-stays, tasks-stay, task-stays, job-stays, release-stays, few-jobs, arrives, is-opened}
 use Rattle.carry.proofs.run.write_columns.Statement.{statement}
 use Rattle.carry.proofs.run.write_columns.Tie as tie
 
@@ -35,20 +35,7 @@ start-all-requires c κs =
     let o = opened (d .before) in
     let p = start (o .before) .pre in
     let e = o .open-columns .ensures (p .19 .0) _ _ (p .19 .2) refl in
-    let few = few-jobs (p .19 .2) _ (p .17) (p .18) (p .7) in (
-      cores-lent (p .19 .2) .0,
-      cores-lent (p .19 .2) .1,
-      omega (arith, p .15, p .16),
-      search needs,
-      search needs,
-      search needs,
-      search needs,
-      search needs,
-      p .7,
-      bounded (p .19 .2) _ (p .17) (p .18) (p .19 .1) (p .15) (p .16) (p .7) e,
-      greatest (p .19 .2) _ (p .19 .1) (p .15) (p .16) few,
-      (_, stands (p .19 .2) _ (p .17) (p .18) e (d .due-column .ensures), going (p .19 .2) _ (p .19 .1) (p .15) (p .16) few),
-    )
+    (p .19 .0, _, is-opened (p .19 .2) _ (p .17) (p .18) (p .19 .1) (p .15) (p .16) (p .7) e (d .due-column .ensures))
 
 write-run-requires : tie.Need-write-run-requires
 write-run-requires c κs =
@@ -81,11 +68,11 @@ returns c ρ O l =
     let p = start (o .before) .pre in
     let few = few-jobs l _ (p .17) (p .18) (p .7) in
     let e = o .open-columns .ensures ρ _ _ l refl in
-    let s = a .start-all .ensures _ (stands l _ (p .17) (p .18) e (d .due-column .ensures)) (going l _ O (p .15) (p .16) few) in
+    let s = a .start-all .ensures ρ _ (is-opened l _ (p .17) (p .18) O (p .15) (p .16) (p .7) e (d .due-column .ensures)) in
     let z = setting-stays l _ O (p .15) (p .16) few in
     c .before .before .write-run .ensures _ (ap (λ (s : Setting). s .cores) z) (ap (λ (s : Setting). s .horizon) z) (tasks-stay l _ O (p .15) (p .16) few)
     (task-stays l _ (p .17) (p .18)) (job-stays l _ (p .17) (p .18)) (release-stays l _ (p .17) (p .18) (e .0))
-    (started l _ (p .17) (p .18) (λ x. x .start) (s .0)) (started l _ (p .17) (p .18) (λ x. x .end) (s .1)) (started l _ (p .17) (p .18) (λ x. x .core) (s .2))
+    (s .0) (s .1) (s .2)
 
 pub write-columns-spec : {M : Type 1} → statement M
 write-columns-spec =
