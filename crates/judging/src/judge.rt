@@ -47,10 +47,9 @@ fn bad_task(file: &[u8], n: u32) -> Found
     Found::Nothing
 }
 
-// How many jobs the first n tasks have before a horizon.
+// How many jobs the first n tasks have before a horizon; one has at most 2^32 - 1, so that the sum of any n fits.
 pub fn total_jobs(file: &[u8], n: u32, horizon: u32) -> u64
-    requires { ⌜ n ≤ 32 ⌝ }
-    ensures { λ r. ⌜ (r ≡ totalJobs (tasksIn (now (file .entry)) n) horizon) × (r ≤ 4294967296 * n) ⌝ }
+    ensures { λ r. ⌜ (r ≡ totalJobs (tasksIn (now (file .entry)) n) horizon) × (r ≤ 4294967295 * n) ⌝ }
 {
     let mut sum: u64 = 0;
     let mut i = 0;

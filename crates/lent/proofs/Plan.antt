@@ -1,5 +1,5 @@
 -- The plan of a decoding, one law for each way. Assumes nothing.
-use Prim.Native.Nat.{ℕ, _+_, _-_, _≤_, _<_}
+use Prim.Native.Nat.{ℕ, _-_, _≤_, _<_}
 use mathlib.Core.Path.{_≡_, refl, sym, _∙_, ap}
 use mathlib.Core.Bool.{Bool, true, false}
 use mathlib.Core.List.{List, _++_}
@@ -7,8 +7,8 @@ use mathlib.Core.Option.{some}
 use native.Mathlib.Omega.{arith}
 use borrow.Author.Tests.{le-leb, lt-leb}
 use lib.Dec.{leb}
-use lib.ListN.{length, drop, replicate, length-replicate, replicate-append-replicate}
-use lib.Seq.{drop-at}
+use lib.ListN.{length, drop, replicate}
+use Rattle.base.proofs.Arrays.{drop-replicate}
 use Rattle.base.proofs.Find.{some≢none}
 use Rattle.model.specs.declared.task.Task.{Task}
 use Rattle.model.specs.Model.{noTask}
@@ -74,7 +74,4 @@ pub tasks-decoded : (b : List ℕ) → Fine (read b) → decoded b (replicate 32
 tasks-decoded b e =
     let n = tasksSaid b in
     let few = few-tasks b e in
-    let all : n + (32 - n) ≡ 32 = omega arith in
-    let zeros : replicate n noTask ++ replicate (32 - n) noTask ≡ replicate 32 noTask = replicate-append-replicate n (32 - n) noTask ∙ ap (λ k. replicate k noTask) all in
-    let rest = ap (drop n) (sym zeros) ∙ drop-at (replicate n noTask) (replicate (32 - n) noTask) n (length-replicate n noTask) in
-    sym (plan-stored b (replicate 32 noTask) e refl few .stored) ∙ ap (λ l. tasksIn b n ++ l) rest
+    sym (plan-stored b (replicate 32 noTask) e refl few .stored) ∙ ap (λ l. tasksIn b n ++ l) (drop-replicate n 32 noTask few)

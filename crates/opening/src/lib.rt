@@ -98,8 +98,7 @@ fn standing(
     i: u32,
     j: u32,
 ) -> Record
-    requires { ⌜ (length (tasks .list) ≡ 32)
-        × (length (now job) ≡ length (now task))
+    requires { ⌜ (length (now job) ≡ length (now task))
         × (length (now release) ≡ length (now task))
         × (length (now start) ≡ length (now task))
         × (length (now end) ≡ length (now task))
@@ -139,8 +138,7 @@ pub fn open_columns(
     ends: &mut [u32],
     cores: &mut [u32],
 )
-    requires { ⌜ (length (tasks .list) ≡ 32)
-        × (length (now job) ≡ length (now task))
+    requires { ⌜ (length (now job) ≡ length (now task))
         × (length (now release) ≡ length (now task))
         × (length (now start) ≡ length (now task))
         × (length (now end) ≡ length (now task))

@@ -27,8 +27,7 @@ fn put_jobs(i: u32, count: u32, at: u32, task: &mut [u32], job: &mut [u32]) -> u
 
 // The existing jobs of the first n tasks before a horizon: how many there are. The columns past them keep their values.
 pub fn existing_jobs(tasks: Tasks, n: u32, horizon: u32, task: &mut [u32], job: &mut [u32]) -> u32
-    requires { ⌜ (length (tasks .list) ≡ 32)
-        × (n ≤ 32)
+    requires { ⌜ (n ≤ 32)
         × (totalJobs (take n (tasks .list)) horizon ≤ length (now task))
         × (length (now job) ≡ length (now task))
         × (length (now task) ≤ 512) ⌝ }

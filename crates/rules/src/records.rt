@@ -23,7 +23,6 @@ const NO_TASK: Task = Task {
 
 // Task i, or the task of zeros.
 pub fn task_in(tasks: Tasks, i: u32) -> Task
-    requires { ⌜ length (tasks .list) ≡ 32 ⌝ }
     ensures { λ r. ⌜ r ≡ taskOf (tasks .list) i ⌝ }
 {
     if i < Tasks::MOST {
@@ -79,7 +78,7 @@ fn obeyed(asks: Asks, task: Task, a: u32, b: u32) -> bool
 
 // The least record that does not do as it is asked.
 fn task_place(asks: Asks, tasks: Tasks, task: &[u32], a: &[u32], b: &[u32]) -> Found
-    requires { ⌜ (length (tasks .list) ≡ 32) × (length (now a) ≡ length (now task)) × (length (now b) ≡ length (now task)) × (length (now task) ≤ 512) ⌝ }
+    requires { ⌜ (length (now a) ≡ length (now task)) × (length (now b) ≡ length (now task)) × (length (now task) ≤ 512) ⌝ }
     ensures { λ r. ⌜ seen r
         ≡ first (λ k. not (obeyedIn asks (tasks .list) (now (task .entry)) (now (a .entry)) (now (b .entry)) k)) 0 (length (now (task .entry))) ⌝ }
 {
@@ -100,7 +99,7 @@ fn task_place(asks: Asks, tasks: Tasks, task: &[u32], a: &[u32], b: &[u32]) -> F
 
 // Rule 2. Release.
 pub fn release_place(tasks: Tasks, task: &[u32], job: &[u32], release: &[u32]) -> Found
-    requires { ⌜ (length (tasks .list) ≡ 32) × (length (now job) ≡ length (now task)) × (length (now release) ≡ length (now task)) × (length (now task) ≤ 512) ⌝ }
+    requires { ⌜ (length (now job) ≡ length (now task)) × (length (now release) ≡ length (now task)) × (length (now task) ≤ 512) ⌝ }
     ensures { λ r. ⌜ seen r
         ≡ first (λ k. not (releasedIn (tasks .list) (now (task .entry)) (now (job .entry)) (now (release .entry)) k)) 0 (length (now (task .entry))) ⌝ }
 {
@@ -124,7 +123,7 @@ pub fn start_place(release: &[u32], start: &[u32]) -> Found
 
 // Rule 4. Length.
 pub fn length_place(tasks: Tasks, task: &[u32], start: &[u32], end: &[u32]) -> Found
-    requires { ⌜ (length (tasks .list) ≡ 32) × (length (now start) ≡ length (now task)) × (length (now end) ≡ length (now task)) × (length (now task) ≤ 512) ⌝ }
+    requires { ⌜ (length (now start) ≡ length (now task)) × (length (now end) ≡ length (now task)) × (length (now task) ≤ 512) ⌝ }
     ensures { λ r. ⌜ seen r
         ≡ first (λ k. not (lastedIn (tasks .list) (now (task .entry)) (now (start .entry)) (now (end .entry)) k)) 0 (length (now (task .entry))) ⌝ }
 {
@@ -151,7 +150,7 @@ pub fn core_place(cores: u32, core: &[u32]) -> Found
 
 // The deadlines of the records, as a column: the whole column is written.
 pub fn due_column(tasks: Tasks, task: &[u32], job: &[u32], due: &mut [u64])
-    requires { ⌜ (length (tasks .list) ≡ 32) × (length (now job) ≡ length (now task)) × (length (now due) ≡ length (now task)) ⌝ }
+    requires { ⌜ (length (now job) ≡ length (now task)) × (length (now due) ≡ length (now task)) ⌝ }
     ensures { λ _. ⌜ now (due .exit) ≡ duesFrom (tasks .list) (now (task .entry)) (now (job .entry)) 0 (length (now (task .entry))) ⌝ }
 {
     let mut k = 0;

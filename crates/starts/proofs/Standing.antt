@@ -16,10 +16,6 @@ use Rattle.carrying.proofs.NextStart.{LastEnd, LeastFree}
 use Rattle.starts.specs.Columns.{Stands}
 use Rattle.starts.specs.Cores.{EndsAt, LastOf, Lasts, LeastOf}
 
--- what owning an array of structs tells of its length
-pub length-under : {A B : Type 0} (f : A → B) (l : List A) (n : ℕ) → length (map f l) ≡ n → length l ≡ n
-length-under f l n e = sym (length-map l f) ∙ e
-
 map-set : {A B : Type 0} (f : A → B) (l : List A) (k : ℕ) (y : A) → map f (set l k y) ≡ set (map f l) k (f y)
 map-set f [] k y = refl
 map-set f (x ∷ l) zero y = refl

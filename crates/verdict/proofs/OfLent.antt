@@ -1,24 +1,19 @@
 -- What is known of values and columns that are lent of a run: they keep its limits. Assumes nothing.
-use Prim.Native.Nat.{ℕ, _+_, _-_, _≤_}
+use Prim.Native.Nat.{ℕ, _≤_}
 use mathlib.Core.Path.{_≡_, sym, _∙_, ap}
 use mathlib.Core.List.{List, map}
 use native.Mathlib.Omega.{arith}
-use lib.ListN.{length, take, length-map, length-append, length-replicate}
+use lib.ListN.{length, take, length-map}
 use lib.Seq.{take-at}
 use Rattle.model.specs.declared.setting.Setting.{Setting}
 use Rattle.model.specs.declared.task.Task.{Task}
 use Rattle.model.specs.declared.record.Record.{Record}
-use Rattle.model.specs.Model.{Run, noTask, totalJobs}
+use Rattle.model.specs.Model.{Run, totalJobs}
 use Rattle.verdict.specs.Lent.{Lent}
 
 module _ {ρ : Run} {σ : Setting} {τs : List Task} {n : ℕ} {is js rs ss es cs : List ℕ} (l : Lent ρ σ τs n is js rs ss es cs) where
   pub tasks-lent : take n τs ≡ ρ .tasks
   tasks-lent = ap (take n) (l .tasks) ∙ take-at (ρ .tasks) _ n (sym (l .count))
-
-  pub whole : length τs ≡ 32
-  whole =
-      let k = l .limits .task-count .1 in
-      ap length (l .tasks) ∙ length-append (ρ .tasks) _ ∙ ap (λ k. length (ρ .tasks) + k) (length-replicate (32 - length (ρ .tasks)) noTask) ∙ omega (arith, k)
 
   pub few-lent : totalJobs (take n τs) (σ .horizon) ≤ 512
   few-lent = rw (tasks-lent, l .setting) (l .limits .job-count)

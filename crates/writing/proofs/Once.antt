@@ -27,7 +27,7 @@ column : (row : ℕ → Record) (f : Record → ℕ) (xs : List ℕ) → ((k : �
 column row f xs same n e = column-from row f xs same 0 n (omega arith)
 
 pub write-run-once : Once write-run.Pre write-run.Post (λ r exit. now (exit .1 .1 .1 .1 .1 .1 .1 .1 .1 .1 .0))
-write-run-once κs args (whole, few, lj, lr, ls, le, lc, short, room) r r′ exit exit′ p q =
+write-run-once κs args (few, lj, lr, ls, le, lc, short, room) r r′ exit exit′ p q =
     let is = now (args .1 .1 .1 .1 .0) in
     let js = now (args .1 .1 .1 .1 .1 .0) in
     let rs = now (args .1 .1 .1 .1 .1 .1 .0) in

@@ -38,7 +38,7 @@ fn write_task(t: Task, at: usize, output: &mut [u8])
 
 // Writes the first n tasks after the head.
 fn write_tasks(tasks: Tasks, n: u32, output: &mut [u8])
-    requires { ⌜ (length (tasks .list) ≡ 32) × (n ≤ 32) × (16 + 20 * n ≤ length (now output)) ⌝ }
+    requires { ⌜ (n ≤ 32) × (16 + 20 * n ≤ length (now output)) ⌝ }
     ensures { λ _. ⌜ Wrote (now (output .entry)) 16 (rows (taskRow (tasks .list)) n) (now (output .exit)) (16 + 20 * n) ⌝ }
 {
     let mut i = 0;
@@ -114,7 +114,7 @@ pub fn write_run(
     core: &[u32],
     output: &mut [u8],
 )
-    requires { ⌜ (length (tasks .list) ≡ 32) × (n ≤ 32)
+    requires { ⌜ (n ≤ 32)
         × (length (now job) ≡ length (now task)) × (length (now release) ≡ length (now task))
         × (length (now start) ≡ length (now task)) × (length (now end) ≡ length (now task))
         × (length (now core) ≡ length (now task))

@@ -32,7 +32,7 @@ shared-slice-read-standing-2 c = search needs
 standing-requires : tie.Need-standing-requires Inv-loop μ-loop
 standing-requires c κs =
     let p = c .before .before .before .before .before .before .before .before .before .before .before .before .before .before .before .before .pre in
-    (p .0, p .1, p .2, p .3, p .4, p .5, p .6, p .12 _ (search needs))
+    (p .0, p .1, p .2, p .3, p .4, p .5, p .11 _ (search needs))
 
 mul-releases : tie.Need-mul-releases Inv-loop μ-loop
 mul-releases c = search needs

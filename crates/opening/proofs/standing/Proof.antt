@@ -22,7 +22,7 @@ arrival-requires : tie.Need-arrival-requires
 arrival-requires c κs = search needs
 
 cast-waiting : tie.Need-cast-waiting
-cast-waiting c = record { fits = rw (c .arrival .ensures, c .before .task-in .ensures) (c .before .before .before .before .before .before .before .before .before .before .before .pre .7) }
+cast-waiting c = record { fits = rw (c .arrival .ensures, c .before .task-in .ensures) (c .before .before .before .before .before .before .before .before .before .before .before .pre .6) }
 
 waiting-requires : tie.Need-waiting-requires
 waiting-requires c κs = search needs

@@ -3,9 +3,9 @@ use mathlib.Core.Path.{_≡_, sym, ap}
 use native.Mathlib.Omega.{arith}
 use borrow.Author.Needs.{needs}
 use lib.ListN.{length, List·getD-eq-default}
+use Rattle.base.proofs.Arrays.{length-under}
 use Rattle.model.specs.declared.task.Task.{Task}
 use Rattle.model.specs.Model.{noTask}
-use Rattle.starts.proofs.Standing.{length-under}
 use Rattle.starts.proofs.greatest_time.Statement.{statement}
 use Rattle.starts.proofs.greatest_time.Tie as tie
 

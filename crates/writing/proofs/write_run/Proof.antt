@@ -1,4 +1,7 @@
+use mathlib.Core.Path.{_≡_}
 use native.Mathlib.Omega.{arith}
+use lib.ListN.{length}
+use Rattle.base.proofs.Arrays.{length-under}
 use Rattle.writing.proofs.Writing.{wrote-put, wrote-run}
 use borrow.Author.Needs.{needs}
 use Rattle.writing.proofs.write_run.Statement.{statement}
@@ -31,6 +34,10 @@ write-records-requires c κs = search needs
 same-length : tie.Need-same-length
 same-length c = search needs
 
+-- what is told of the tasks: the array has 32
+whole : (s : tie.Start) → length (s .args .tasks .list) ≡ 32
+whole s = search (needs, length-under)
+
 returns : tie.Need-returns
 returns c ρ cores horizon tasks task job release begin end core =
     let four = c .before .before in
@@ -39,7 +46,7 @@ returns c ρ cores horizon tasks task job release begin end core =
     let one = two .before .before .before .before in
     let start = one .before .before .before .before .before .before .before .before .before in
     wrote-run
-    ρ task job release begin end core (start .args .tasks .list) (start .args .n) (omega arith) tasks cores horizon
+    ρ task job release begin end core (start .args .tasks .list) (start .args .n) (omega (arith, whole start)) tasks cores horizon
     (one .write-head .ensures) (two .write-tasks .ensures) (wrote-put (three .put-u32 .ensures) (search needs)) (four .write-records .ensures)
 
 pub write-run-spec : {M : Type 1} → statement M

@@ -8,7 +8,6 @@ use denote.Ref.{now}
 use Rattle.model.specs.Model.{totalJobs}
 use Rattle.model.specs.File.{num, read, refusalOf, settingAt, tasksIn, tasksPlace}
 use Rattle.judging.proofs.Numbered.{not-refused, is-refused}
-use Rattle.lending.proofs.Whole.{told-whole, few-tasks}
 use Rattle.carrier.proofs.Told.{tells-refusal, carry-refused, says-9, says-6, horizon-refused, horizon-granted, too-many, few-enough}
 use Rattle.carrier.proofs.file.carry_file.Statement.{statement}
 use Rattle.carrier.proofs.file.carry_file.Tie as tie
@@ -43,9 +42,7 @@ task-count-requires : tie.Need-task-count-requires
 task-count-requires c κs = search needs
 
 total-jobs-requires : tie.Need-total-jobs-requires
-total-jobs-requires c κs =
-    let (ρ, e) = told-whole _ (not-refused _ _ (c .before .before .before .before .refusal-in .ensures) (c .before .before .if1 .left)) in
-    omega (arith, few-tasks _ ρ e, c .task-count .ensures)
+total-jobs-requires c κs = search needs
 
 may-carry-requires : tie.Need-may-carry-requires
 may-carry-requires c κs = search needs

@@ -4,7 +4,6 @@ use native.Mathlib.Omega.{arith}
 use lib.ListN.{take}
 use lib.Seq.{length-take-le}
 use borrow.Author.Needs.{needs}
-use Rattle.verdict.proofs.OfLent.{whole}
 use Rattle.carry.proofs.Columns.{front-jobs}
 use Rattle.carry.proofs.run.write_carry.Statement.{statement}
 use Rattle.carry.proofs.run.write_carry.Tie as tie
@@ -16,7 +15,7 @@ slice-aggregate-existing-jobs-2 : tie.Need-slice-aggregate-existing-jobs-2
 slice-aggregate-existing-jobs-2 c = search needs
 
 existing-jobs-requires : tie.Need-existing-jobs-requires
-existing-jobs-requires c κs = let p = c .before .before .before .before .before .before .before .before .before .pre in (whole (p .12 .2), p .0, omega (arith, p .1, p .2), search needs, search needs)
+existing-jobs-requires c κs = let p = c .before .before .before .before .before .before .before .before .before .pre in (p .0, omega (arith, p .1, p .2), search needs, search needs)
 
 array-share-prefix-whose : tie.Need-array-share-prefix-whose
 array-share-prefix-whose c = search needs

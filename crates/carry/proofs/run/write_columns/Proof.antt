@@ -3,7 +3,6 @@ use mathlib.Core.Path.{refl, ap}
 use native.Mathlib.Omega.{arith}
 use borrow.Author.Needs.{needs}
 use Rattle.model.specs.declared.setting.Setting.{Setting}
-use Rattle.verdict.proofs.OfLent.{whole}
 use Rattle.carry.proofs.Columns.{setting-stays, tasks-stay, task-stays, job-stays, release-stays, few-jobs, arrives, is-opened}
 use Rattle.carry.proofs.run.write_columns.Statement.{statement}
 use Rattle.carry.proofs.run.write_columns.Tie as tie
@@ -24,10 +23,10 @@ all-started c = c .before .before .before .before .before .before .before .befor
 open-columns-requires : tie.Need-open-columns-requires
 open-columns-requires c κs =
     let p = start c .pre in
-    (whole (p .19 .2), p .1, p .2, p .3, p .4, p .5, p .6, p .8, p .10, p .11, p .12, p .13, arrives (p .19 .2) _ (p .17) (p .18) (p .19 .1) (p .15) (p .16) (p .7), (p .19 .0, _, _, p .19 .2, refl))
+    (p .1, p .2, p .3, p .4, p .5, p .6, p .8, p .10, p .11, p .12, p .13, arrives (p .19 .2) _ (p .17) (p .18) (p .19 .1) (p .15) (p .16) (p .7), (p .19 .0, _, _, p .19 .2, refl))
 
 due-column-requires : tie.Need-due-column-requires
-due-column-requires c κs = let p = start (opened c .before) .pre in (whole (p .19 .2), p .8, p .9)
+due-column-requires c κs = let p = start (opened c .before) .pre in (p .8, p .9)
 
 start-all-requires : tie.Need-start-all-requires
 start-all-requires c κs =
@@ -40,7 +39,7 @@ start-all-requires c κs =
 write-run-requires : tie.Need-write-run-requires
 write-run-requires c κs =
     let p = start (opened (due (all-started c .before) .before) .before) .pre in
-    (whole (p .19 .2), p .0, p .8, search needs, search needs, search needs, search needs, p .7, p .14)
+    (p .0, p .8, search needs, search needs, search needs, search needs, p .7, p .14)
 
 same-length : tie.Need-same-length
 same-length c = search needs

@@ -9,7 +9,7 @@ use Rattle.judging.proofs.judge.total_jobs.Statement.{statement}
 use Rattle.judging.proofs.judge.total_jobs.Tie as tie
 
 abbrev Inv-loop : tie.InvT-loop
-Inv-loop file n horizon sum₀ i₀ sum i = (i ≤ n) × (sum ≡ totalJobs (tasksIn file i) horizon) × (sum ≤ 4294967296 * i)
+Inv-loop file n horizon sum₀ i₀ sum i = (i ≤ n) × (sum ≡ totalJobs (tasksIn file i) horizon) × (sum ≤ 4294967295 * i)
 
 abbrev μ-loop : tie.MeasureT-loop
 μ-loop file n horizon sum₀ i₀ sum i = n - i

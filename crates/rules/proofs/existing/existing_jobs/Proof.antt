@@ -2,6 +2,7 @@ use Prim.Native.Nat.{_≤_, _<_, _-_}
 use mathlib.Core.Path.{_≡_}
 use native.Mathlib.Omega.{arith}
 use lib.ListN.{length, take}
+use Rattle.base.proofs.Arrays.{length-under}
 use Rattle.model.specs.Model.{totalJobs}
 use Rattle.rules.proofs.Fill.{Filled, filled-none, filled-on, total-on, total-fits}
 use borrow.Author.Needs.{needs}
@@ -33,11 +34,16 @@ element-copy-out-t c = search needs
 jobs-requires : tie.Need-jobs-requires Inv-loop μ-loop
 jobs-requires c κs = search needs
 
+-- what is told of the tasks: the array has 32
+whole : (s : tie.Start Inv-loop μ-loop) → length (s .args .t1 .list) ≡ 32
+whole s = search (needs, length-under)
+
 put-jobs-requires : tie.Need-put-jobs-requires Inv-loop μ-loop
 put-jobs-requires c κs =
     let k = c .before .before .before .before .before .loop .i in
-    let a = c .before .before .before .before .before .before .before .before .args in
-    let fits = total-fits (a .t1 .list) (a .horizon) k (a .n) (omega arith) (omega arith) in
+    let s = c .before .before .before .before .before .before .before .before in
+    let a = s .args in
+    let fits = total-fits (a .t1 .list) (a .horizon) k (a .n) (omega (arith, whole s)) (omega arith) in
     omega arith
 
 add-i : tie.Need-add-i Inv-loop μ-loop
@@ -49,8 +55,9 @@ loop-less c = search needs
 loop-again : tie.Need-loop-again Inv-loop μ-loop
 loop-again c =
     let b = c .before .before .before .before .before .before .before .before .before .before in
-    let a = b .before .before .before .args in
-    let l : b .loop .i < length (a .t1 .list) = omega arith in
+    let s = b .before .before .before in
+    let a = s .args in
+    let l : b .loop .i < length (a .t1 .list) = omega (arith, whole s) in
     let fits = total-fits (a .t1 .list) (a .horizon) (b .loop .i) (a .n) l (omega arith) in
     let total = total-on (a .t1 .list) (a .horizon) (b .loop .i) l in
     let put = c .before .before .before .before .put-jobs .ensures in

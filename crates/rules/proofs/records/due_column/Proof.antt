@@ -3,6 +3,7 @@ use mathlib.Core.Path.{_≡_, _∙_}
 use mathlib.Core.Logic.{⊎-elim}
 use native.Mathlib.Omega.{arith}
 use lib.ListN.{length, getD}
+use Rattle.base.proofs.Arrays.{length-under}
 use Rattle.rules.specs.Columns.{taskIn, duesFrom}
 use Rattle.rules.proofs.Tests.{task-past}
 use Rattle.rules.proofs.Write.{Written, written-none, dues-on, dues-all}
@@ -34,6 +35,10 @@ mul-t c = search needs
 element-copy-out-t : tie.Need-element-copy-out-t Inv-loop μ-loop
 element-copy-out-t c = search needs
 
+-- what is told of the tasks: the array has 32
+whole : (s : tie.Start Inv-loop μ-loop) → length (s .args .t1 .list) ≡ 32
+whole s = search (needs, length-under)
+
 -- the task of this record, by either way
 its-task : (c : tie.Joined1 Inv-loop μ-loop)
     → let s = c .before .before .before .before .before .before .before in
@@ -42,7 +47,7 @@ its-task c =
     let s = c .before .before .before .before .before .before .before in
     ⊎-elim
     (λ w. w .2)
-    (λ w. w .1 ∙ task-past (s .args .t1 .list) (getD (s .args .task .now) (c .before .before .before .loop .k) 0) (omega arith))
+    (λ w. w .1 ∙ task-past (s .args .t1 .list) (getD (s .args .task .now) (c .before .before .before .loop .k) 0) (omega (arith, whole s)))
     (c .if1 .came)
 
 mul-deadline : tie.Need-mul-deadline Inv-loop μ-loop

@@ -5,6 +5,7 @@ use mathlib.Core.Path.{_≡_, _∙_}
 use mathlib.Core.Logic.{⊎-elim}
 use mathlib.Core.Bool.{not}
 use lib.ListN.{length, getD}
+use Rattle.base.proofs.Arrays.{length-under}
 use Rattle.base.proofs.Loop.{NoneTo, none-yet, none-on, first-hit, first-miss}
 use Rattle.rules.specs.Columns.{taskIn}
 use Rattle.rules.specs.Asked.{obeyedIn}
@@ -37,6 +38,10 @@ mul-t c = search needs
 element-copy-out-t : tie.Need-element-copy-out-t Inv-loop μ-loop
 element-copy-out-t c = search needs
 
+-- what is told of the tasks: the array has 32
+whole : (s : tie.Start Inv-loop μ-loop) → length (s .args .t2 .list) ≡ 32
+whole s = search (needs, length-under)
+
 -- the task of this record, by either way
 its-task : (c : tie.Joined1 Inv-loop μ-loop)
     → let s = c .before .before .before .before .before .before .before in
@@ -45,7 +50,7 @@ its-task c =
     let s = c .before .before .before .before .before .before .before in
     ⊎-elim
     (λ w. w .2)
-    (λ w. w .1 ∙ task-past (s .args .t2 .list) (getD (s .args .task .now) (c .before .before .before .loop .k) 0) (omega arith))
+    (λ w. w .1 ∙ task-past (s .args .t2 .list) (getD (s .args .task .now) (c .before .before .before .loop .k) 0) (omega (arith, whole s)))
     (c .if1 .came)
 
 mul-obeyed : tie.Need-mul-obeyed Inv-loop μ-loop

@@ -1,6 +1,6 @@
 -- The deadlines are written into a column, over which the rest is judged. Assumes nothing.
-use mathlib.Core.Path.{_≡_, sym, _∙_, ap}
-use lib.ListN.{length, length-map}
+use mathlib.Core.Path.{sym, _∙_, ap}
+use lib.ListN.{length}
 use lib.Seq.{length-take-le}
 use borrow.Author.Needs.{needs}
 use Rattle.rules.proofs.Write.{length-dues}
@@ -13,12 +13,8 @@ array-borrow-prefix-space c = search needs
 slice-aggregate-due : tie.Need-slice-aggregate-due
 slice-aggregate-due c = sym (length-take-le _ _ (search needs))
 
--- what is told of the tasks: the array has 32
-whole : (s : tie.Start) → length (s .args .tasks .list) ≡ 32
-whole s = simp length-map at (s .good .1 .0 .1 .1 .0 .1 .0 .1)
-
 due-column-requires : tie.Need-due-column-requires
-due-column-requires c κs = (whole (c .before .before .before .before .before .before .before .before), search needs, length-take-le _ _ (search needs))
+due-column-requires c κs = (search needs, length-take-le _ _ (search needs))
 
 judge-times-requires : tie.Need-judge-times-requires
 judge-times-requires c κs =

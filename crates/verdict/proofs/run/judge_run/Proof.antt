@@ -3,7 +3,6 @@ use Prim.Native.Nat.{ℕ}
 use mathlib.Core.Path.{_≡_, sym, _∙_, ap}
 use mathlib.Core.Option.{Option·map}
 use native.Mathlib.Omega.{arith}
-use lib.ListN.{length, length-map}
 use Rattle.base.specs.Find.{seen, seenTwo}
 use Rattle.model.specs.Model.{Run}
 use Rattle.model.specs.Compute.Places.{one, two}
@@ -55,12 +54,8 @@ past-5 c ρ L = past-4 (c .before .before) ρ L ∙ passed ρ one 5 (omega arith
 past-6 : (c : tie.After-enum-told6) → Past (c .before .before .before .before .before .before .before .before .before .before .before .before .before .before .before .before .before .before .before .before .before .before .before .before) 7
 past-6 c ρ L = past-5 (c .before .before .before) ρ L ∙ passed ρ two 6 (omega arith) (ap (Option·map two) (c .before .before .overlap-place .ensures) ∙ overlap-lent L) (ap seenTwo (c .enum-told6 .given .1))
 
--- what is told of the tasks: the array has 32
-whole : (s : tie.Start) → length (s .args .tasks .list) ≡ 32
-whole s = simp length-map at (s .good .1 .0 .1 .1 .0 .1 .0 .1)
-
 release-place-requires : tie.Need-release-place-requires
-release-place-requires c κs = (whole (c .before .before .before .before .before .before .before .before .before), search needs, search needs, search needs)
+release-place-requires c κs = search needs
 
 enum-known-k-2 : tie.Need-enum-known-k-2
 enum-known-k-2 c = search needs
@@ -88,7 +83,7 @@ enum-told-3 : tie.Need-enum-told-3
 enum-told-3 c = search needs
 
 length-place-requires : tie.Need-length-place-requires
-length-place-requires c κs = (whole (c .before .before .before .before .before .before .before .before .before .before .before .before .before .before .before), search needs, search needs, search needs)
+length-place-requires c κs = search needs
 
 core-place-requires : tie.Need-core-place-requires
 core-place-requires c κs = search needs

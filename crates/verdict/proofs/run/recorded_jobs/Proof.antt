@@ -1,8 +1,8 @@
 -- The existing jobs as columns, and rule 1 over them. Assumes nothing.
-use mathlib.Core.Path.{_≡_, sym, _∙_, ap}
+use mathlib.Core.Path.{sym, _∙_, ap}
 use mathlib.Core.Option.{Option·map}
 use native.Mathlib.Omega.{arith}
-use lib.ListN.{length, length-map, length-take}
+use lib.ListN.{length-take}
 use lib.Seq.{length-take-le}
 use borrow.Author.Needs.{needs}
 use Rattle.model.specs.Compute.Places.{one}
@@ -16,12 +16,8 @@ slice-aggregate-existing-jobs c = search needs
 slice-aggregate-existing-jobs-2 : tie.Need-slice-aggregate-existing-jobs-2
 slice-aggregate-existing-jobs-2 c = search needs
 
--- what is told of the tasks: the array has 32
-whole : (s : tie.Start) → length (s .args .tasks .list) ≡ 32
-whole s = simp length-map at (s .good .1 .0 .1 .1 .0 .1 .0 .1)
-
 existing-jobs-requires : tie.Need-existing-jobs-requires
-existing-jobs-requires c κs = (whole (c .before .before .before .before), search needs, search needs, search needs, search needs)
+existing-jobs-requires c κs = search needs
 
 cast-wanted : tie.Need-cast-wanted
 cast-wanted c = search needs
