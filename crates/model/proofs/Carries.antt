@@ -37,8 +37,8 @@ table =
     -- H' from H to 1,000,000
     ∷ (carries (every 1 1) 0 12948, told (five 4 9 0 0 0))
     ∷ (carries (every 1 1) 1 12948, wrote 64 (every 1 1))
-    ∷ (carries (every 1000000 1) 1000000 12948, wrote 64 (every 1000000 1000000))
-    ∷ (carries (every 1000000 1) 1000001 12948, told (five 4 9 0 0 0))
+    ∷ (carries (every 1000000 999999) 1000000 12948, wrote 64 (every 1000000 1000000))
+    ∷ (carries (every 1000000 999999) 1000001 12948, told (five 4 9 0 0 0))
     -- 512 jobs at H', and 513
     ∷ (carries lawless 512 12948, told (five 4 10 0 0 0))
     ∷ (carries lawless 513 12948, told (five 4 6 0 0 0))

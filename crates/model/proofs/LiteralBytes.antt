@@ -41,8 +41,8 @@ table =
     ∷ (checks (literal (3, 0, 0, 0) one), told (five 4 2 0 0 0))
     ∷ (checks (literal (2, 1, 0, 0) one), told (five 4 2 0 0 0))
     ∷ (checks (literal (2, 0, 0, 1) one), told (five 4 2 0 0 0))
-    -- what a carry to 1,000,000 writes
-    ∷ (carries (literal (2, 0, 0, 0) one) 1000000 40, wrote 40 (literal (2, 0, 0, 0) million))
+    -- what a carry from 999,999 to 1,000,000 writes
+    ∷ (carries (literal (2, 0, 0, 0) (63, 66, 15, 0)) 1000000 40, wrote 40 (literal (2, 0, 0, 0) million))
     ∷ []
 
 pub low-byte-first : map (λ row. outcome (row .0)) table ≡ map (λ row. row .1) table
