@@ -38,6 +38,8 @@ table =
     -- rule 5: from 1 to N
     ∷ (alone 5 5 7 0, five 3 5 0 0 0)
     ∷ (alone 5 5 7 2, five 3 5 0 0 0)
+    -- any free core may be taken: core 2 while core 1 is free
+    ∷ (file 2 6 (1 ∷ 10 ∷ 2 ∷ 3 ∷ 5 ∷ 1 ∷ []) (1 ∷ 0 ∷ 0 ∷ 5 ∷ 5 ∷ 7 ∷ 2 ∷ []), five 0 0 0 0 0)
     -- rule 6: one may start as the other ends, and no sooner; on two cores they may run beside each other
     ∷ (beside 1 1 (10, 0) (10, 0) (0, 0, 2, 1) (0, 2, 3, 1), five 0 0 0 0 0)
     ∷ (beside 1 1 (10, 0) (10, 0) (0, 0, 2, 1) (0, 1, 3, 1), five 3 6 0 1 0)
@@ -53,6 +55,8 @@ table =
     ∷ (beside 1 2 (10, 0) (2, 1) (0, 0, 2, 1) (1, 2, 4, 1), five 2 1 1 0 0)
     ∷ (beside 1 3 (10, 0) (2, 1) (0, 0, 2, 1) (1, 2, 4, 1), five 1 1 1 0 0)
     ∷ (beside 1 3 (10, 0) (2, 1) (0, 0, 2, 1) (1, 2, 3, 1), five 0 0 0 0 0)
+    -- both late, record 0 from H on: record 1 is named, and both are counted
+    ∷ (beside 1 1 (3, 0) (2, 0) (0, 5, 6, 1) (0, 0, 5, 1), five 1 2 1 0 0)
     ∷ []
 
 pub at-borders : map (λ row. check (row .0)) table ≡ map (λ row. row .1) table

@@ -16,4 +16,11 @@ pub mod Demand2
 pub mod Worked
 pub mod FourReadings
 pub mod Borders
+pub mod FileLimits
+pub mod FromTheFront
+pub mod LiteralBytes
+pub mod LentTasks
+pub mod Carries
+pub mod LentSlices
+pub mod Longest
 pub mod Once

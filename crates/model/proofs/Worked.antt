@@ -11,22 +11,31 @@ use Rattle.model.specs.Compute.Limits.{settingInRange, taskInRange, badT
 use Rattle.model.specs.Compute.Places.{find, lowest}
 use Rattle.model.specs.Compute.Verdict.{lateCount, timely, verdict, check}
 
--- A call of the library, and what comes of it: the five numbers, and the bytes written to an output with room for the longest file.
+-- A call of the library, and what comes of it: the five numbers, and the bytes written to an output with room for so many.
 pub data Call : Type 0 where
   checks : List ℕ → Call
-  carries : List ℕ → ℕ → Call
+  carries : List ℕ → ℕ → ℕ → Call
 
 -- the checker, with all that it computes by laid open: a statement that unfolds this name computes
 unfoldable pub computed : List ℕ → Five
 unfolding first firstOf count jobCount due rank ready existing gate gateTask runAt readRecords readTasks read settingInRange taskInRange badTask find lowest lateCount timely verdict check
 computed b = check b
 
+-- the carry, likewise
+unfoldable pub computedCarry : List ℕ → ℕ → ℕ → Carried
+unfolding computed bytes opening atInstant atEachInstant carried gateCarry carriedFile carryRun carry
+computedCarry b H′ room = carry b H′ room
+
 abbrev pub outcome : Call → Carried
 outcome (checks b) = record { told = check b; writes = [] }
-outcome (carries b H′) = carry b H′ 12948
+outcome (carries b H′ room) = carry b H′ room
 
 abbrev pub told : Five → Carried
 told f = record { told = f; writes = [] }
+
+-- carried: so many bytes, and these
+abbrev pub wrote : ℕ → List ℕ → Carried
+wrote n b = record { told = five 5 n 0 0 0; writes = b }
 
 -- A file: the setting's count and numbers, the tasks' count and numbers, the records' count and numbers.
 abbrev pub file : ℕ → ℕ → List ℕ → List ℕ → List ℕ
@@ -122,8 +131,8 @@ table =
     (checks C1, told (five 1 1 0 0 0))
     ∷ (checks C2, told (five 2 1 0 0 0))
     -- C3
-    ∷ (carries C2 20, record { told = five 5 220 0 0 0; writes = C1 })
-    ∷ (carries C1 30, record { told = five 5 244 0 0 0; writes = C4 })
+    ∷ (carries C2 20 12948, wrote 220 C1)
+    ∷ (carries C1 30 12948, wrote 244 C4)
     ∷ (checks C5, told (five 3 8 3 2 2))
     ∷ (checks C6, told (five 3 4 0 0 0))
     ∷ (checks C7, told (five 3 1 4 0 0))
@@ -131,9 +140,9 @@ table =
     ∷ (checks [], told (five 4 1 0 0 0))
     ∷ (checks C11, told (five 0 0 0 0 0))
     -- C12
-    ∷ (carries C1 19, told (five 4 9 0 0 0))
+    ∷ (carries C1 19 12948, told (five 4 9 0 0 0))
     ∷ []
 
 pub worked : map (λ row. outcome (row .0)) table ≡ map (λ row. row .1) table
-unfolding computed bytes opening atInstant atEachInstant carried gateCarry carriedFile carryRun carry
+unfolding computedCarry
 worked = refl
