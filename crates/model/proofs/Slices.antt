@@ -10,7 +10,7 @@ use Rattle.base.specs.First.{First, Number}
 use Rattle.model.specs.Model.{Run, IsRecord, rec, jobOf, existing, WithinLimits, totalJobs}
 use Rattle.model.specs.File.{Bytes, FourBytes, RecordFits, num, taskSize, tasksPlace, taskAt, recordNumbers, recordAt, recordPlace, refused, whole, read}
 use Rattle.model.specs.Rules.{Rule, rule1, rule2, rule3, rule4, rule5, rule6, rule7, rule8, Place, BrokenAt, Fails, OfOne, jobsRecorded}
-use Rattle.model.specs.Answers.{Five, Late, number, refusal, ruleBroken, Listed, Verdict, Answered}
+use Rattle.model.specs.Answers.{Five, five, number, refusal, Listed, Verdict, Answered}
 use Rattle.model.specs.Refusals.{taskCount, tasksTold, Names}
 use Rattle.model.specs.Calls.{answerSize, numbers, written, fiveIn, CheckCall, checkCall}
 use Rattle.model.specs.Compute.Verdict.{check}
@@ -45,6 +45,12 @@ five-read f slice F = λ κ.
           };
     }
 
+-- of n no more than n are counted
+count-fits : {P : ℕ → Type 0} {n c : ℕ} → Number P n c → c ≤ n
+count-fits Number.nothing = omega arith
+count-fits (Number.passes u h) = omega (arith, count-fits u)
+count-fits (Number.fails u h) = omega (arith, count-fits u)
+
 -- Of a file of bytes
 -- ------------------
 module _ (b : List ℕ) (B : Bytes b) where
@@ -73,11 +79,6 @@ module _ (b : List ℕ) (B : Bytes b) where
     abbrev L : WithinLimits ρ
     L = read-limits b ρ reads
 
-    count-fits : {n c : ℕ} → Number (Late ρ) n c → c ≤ n
-    count-fits Number.nothing = omega arith
-    count-fits (Number.passes u h) = omega (arith, count-fits u)
-    count-fits (Number.fails u h) = omega (arith, count-fits u)
-
     record-number : (k : ℕ) → IsRecord ρ k → FourBytes k
     record-number k h = omega (arith, h, L .record-count)
 
@@ -98,12 +99,15 @@ module _ (b : List ℕ) (B : Bytes b) where
     place-fits rule8 p h =
         (record-number (p .x) (h .0), omega (arith, h .1 .1, record-fits ρ reads (p .x) (h .0) 3), omega (arith, h .2, L .setting .cores))
 
+    -- a number of late records, and one of them
+    late-fits : (a n k : ℕ) → a ≤ 2 → n ≤ length (ρ .records) → IsRecord ρ k → FiveFit (five a n k 0 0)
+    late-fits a n k small few h =
+        record { answer = omega arith; code = omega (arith, L .record-count); x = record-number k h; y = omega arith; z = omega arith }
+
     verdict-fits : (f : Five) → Verdict ρ f → FiveFit f
     verdict-fits f (Verdict.in-time O h) = record { answer = omega arith; code = omega arith; x = omega arith; y = omega arith; z = omega arith }
-    verdict-fits f (Verdict.late-before-H {n = n} {k = k} O N F) =
-        record { answer = omega arith; code = omega (arith, count-fits N, L .record-count); x = record-number k (F .here .0); y = omega arith; z = omega arith }
-    verdict-fits f (Verdict.late-from-H {n = n} {k = k} O N h F) =
-        record { answer = omega arith; code = omega (arith, count-fits N, L .record-count); x = record-number k (F .here .0); y = omega arith; z = omega arith }
+    verdict-fits f (Verdict.late-before-H {n = n} {k = k} O N F) = late-fits 1 n k (omega arith) (count-fits N) (F .here .0)
+    verdict-fits f (Verdict.late-from-H {n = n} {k = k} O N h F) = late-fits 2 n k (omega arith) (count-fits N) (F .here .0)
     verdict-fits f (Verdict.rule-broken {p = p} ν l F) =
         let (x, y, z) = place-fits ν p (F .here) in
         record { answer = omega arith; code = number-fits ν; x = x; y = y; z = z }
