@@ -6,7 +6,7 @@ use native.Mathlib.Omega.{arith}
 use lib.ListN.{length, replicate, length-replicate, getD-replicate}
 use Rattle.model.specs.declared.task.Task.{Task}
 use Rattle.model.specs.Model.{Run, IsRecord, WithinLimits, TaskInRange, noTask, noRecord, rec, jobCount, totalJobs, mostJobs}
-use Rattle.model.specs.File.{recordNumbers, RecordFits, bytes, read, whole}
+use Rattle.model.specs.File.{recordNumbers, RecordFits, bytes, longestFile, read, whole}
 use Rattle.model.proofs.RoundTrip.{Fits, fits-nil, fits-cons, length-bytes, read-back}
 
 -- 32 tasks and 512 records
@@ -59,7 +59,7 @@ fits k h =
     let e = getD-replicate 512 k noRecord noRecord (omega arith) in
     subst (λ x. RecordFits x) (sym e) (zeros .at)
 
-size : length (bytes full) ≡ 12948
+size : length (bytes full) ≡ longestFile
 unfolding full
 size =
     let N = length-replicate 32 one-tick in
@@ -67,5 +67,5 @@ size =
     let l = length-bytes full in
     omega arith
 
-pub longest-attained : (b : List ℕ) × (ρ : Run) × (read b ≡ whole ρ) × (length b ≡ 12948)
+pub longest-attained : (b : List ℕ) × (ρ : Run) × (read b ≡ whole ρ) × (length b ≡ longestFile)
 longest-attained = (bytes full, full, read-back full within fits, size)

@@ -12,7 +12,7 @@ use Rattle.base.proofs.Test.{says-leb}
 use Rattle.model.specs.declared.setting.Setting.{Setting}
 use Rattle.model.specs.declared.task.Task.{Task}
 use Rattle.model.specs.Model.{Run, WithinLimits, SettingInRange, mostTasks, mostJobs, mostRecords, totalJobs, rec}
-use Rattle.model.specs.File.{Read, refused, whole, num, settingAt, taskAt, recordAt, entries, taskSize, recordSize, tasksPlace, recordsPlace, recordPlace, gate, gateTask, tasksIn, runAt, readRecords, readTasks, read}
+use Rattle.model.specs.File.{Read, refused, whole, num, settingAt, taskAt, recordAt, entries, taskSize, recordSize, tasksPlace, recordsPlace, longestFile, recordPlace, gate, gateTask, tasksIn, runAt, readRecords, readTasks, read}
 use Rattle.model.specs.Compute.Limits.{badTask}
 use Rattle.model.proofs.Limits.{says-within, says-setting, tasks-fine}
 
@@ -147,7 +147,7 @@ module _ (b : List ℕ) where
     pub read-records : read b ≡ whole ρ → (k : ℕ) → k < length (ρ .records) → rec ρ k ≡ recordAt b (recordPlace ρ k)
     read-records e = tells e .records
 
-    pub longest : read b ≡ whole ρ → length b ≤ 12948
+    pub longest : read b ≡ whole ρ → length b ≤ longestFile
     longest e =
         let L = read-limits e in
         let l = read-length e in

@@ -101,6 +101,10 @@ recordsPlace n = tasksPlace + 4 + taskSize * n
 abbrev pub sizeOf : ℕ → ℕ → ℕ
 sizeOf n m = recordsPlace n + 4 + recordSize * m
 
+-- The longest file that is read through has 12,948 bytes.
+abbrev pub longestFile : ℕ
+longestFile = 12948
+
 -- The file is judged from the front and the first fault met is the answer.
 -- ------------------------------------------------------------------------
 pub data Read : Type 0 where
