@@ -5,7 +5,7 @@ use libc::STDIN_FILENO;
 use libc::STDOUT_FILENO;
 use model::Answer;
 use runfile::num_at;
-use text::put_line;
+use text::line_of;
 use wire::numbers_of;
 
 // The file that was written, or the line.
@@ -17,9 +17,10 @@ fn print_carried(told: Answer, output: &[u8]) {
         }
         return;
     }
-    let mut line = [0u8; 64];
-    let k = put_line(&mut line, numbers_of(told));
-    io::write_all(STDOUT_FILENO, &line[..k]);
+    let line = line_of(numbers_of(told));
+    let text = line.text;
+    let size = line.size;
+    io::write_all(STDOUT_FILENO, &text[..size]);
 }
 
 fn main() {

@@ -3,14 +3,15 @@ use checker::check_file;
 use judging::refusal_in;
 use libc::STDOUT_FILENO;
 use model::Answer;
-use text::put_line;
+use text::line_of;
 use wire::Numbers;
 use wire::numbers_of;
 
 pub(crate) fn print_numbers(n: Numbers) {
-    let mut line = [0u8; 64];
-    let k = put_line(&mut line, n);
-    io::write_all(STDOUT_FILENO, &line[..k]);
+    let line = line_of(n);
+    let text = line.text;
+    let size = line.size;
+    io::write_all(STDOUT_FILENO, &text[..size]);
 }
 
 pub(crate) fn print_answer(told: Answer) {

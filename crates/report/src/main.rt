@@ -7,7 +7,8 @@ use reporting::report_line;
 fn main() {
     let mut input = [0u8; MOST_READ];
     let n = io::read_full(STDIN_FILENO, &mut input);
-    let mut line = [0u8; 64];
-    let k = report_line(&input[..n], &mut line);
-    io::write_all(STDOUT_FILENO, &line[..k]);
+    let line = report_line(&input[..n]);
+    let text = line.text;
+    let size = line.size;
+    io::write_all(STDOUT_FILENO, &text[..size]);
 }

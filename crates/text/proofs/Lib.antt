@@ -1,3 +1,4 @@
 pub mod Pasting
+pub mod Lined
 pub mod Decimal
 pub mod Once

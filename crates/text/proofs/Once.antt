@@ -1,8 +1,7 @@
--- Two results that a contract permits are the same: of `put_line`, the line's length, and the text. Assumes nothing.
+-- Two results that a contract permits are the same: of `line_of`, the line. Assumes nothing.
 use mathlib.Core.Path.{sym, _∙_}
-use denote.Ref.{now}
-use Rattle.base.proofs.Once.{Once, _also_, both}
-use Rattle.text.proofs.put_line.Reads as put-line
+use Rattle.base.proofs.Once.{Once}
+use Rattle.text.proofs.line_of.Reads as line-of
 
-pub put-line-once : Once put-line.Pre put-line.Post (λ r exit. r also now (exit .0))
-put-line-once κs args _ r r′ exit exit′ p q = both (p .0 ∙ sym (q .0)) (p .2 ∙ sym (q .2))
+pub line-of-once : Once line-of.Pre line-of.Post (λ r exit. r)
+line-of-once κs args _ r r′ exit exit′ p q = p .0 ∙ sym (q .0)

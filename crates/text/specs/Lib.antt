@@ -1,1 +1,2 @@
 pub mod Paste
+pub mod Lined

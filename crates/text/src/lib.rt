@@ -5,7 +5,14 @@ ghost use mathlib.Core.List.{[], _∷_, _++_};
 ghost use Prim.Native.Nat.{_+_, _≤_, _<_};
 ghost use lib.ListN.{length};
 ghost use Rattle.model.specs.Report.{decimal, line};
+ghost use Rattle.text.specs.Lined.{lined};
 ghost use Rattle.text.specs.Paste.{pasted, Wrote};
+
+// A line as a value: its bytes, zeros after them, and how many bytes it has.
+pub struct Line {
+    pub text: [u8; 64],
+    pub size: usize,
+}
 
 // Writes a byte at a place: the place after it.
 fn put_byte(text: &mut [u8], at: usize, byte: u8) -> usize
@@ -38,7 +45,7 @@ fn put_number(text: &mut [u8], at: usize, v: u32, byte: u8) -> usize
 }
 
 // Writes the line at the front of a text: how long it is.
-pub fn put_line(text: &mut [u8], n: Numbers) -> usize
+fn put_line(text: &mut [u8], n: Numbers) -> usize
     requires { ⌜ 64 ≤ length (now text) ⌝ }
     ensures { λ r. ⌜ (r ≡ length (line (n .answer ∷ n .code ∷ n .x ∷ n .y ∷ n .z ∷ [])))
         × (r ≤ 64)
@@ -49,4 +56,16 @@ pub fn put_line(text: &mut [u8], n: Numbers) -> usize
     let y = put_number(text, x, n.x, b' ');
     let z = put_number(text, y, n.y, b' ');
     put_number(text, z, n.z, b'\n')
+}
+
+// The line of an answer's five numbers.
+pub fn line_of(n: Numbers) -> Line
+    ensures { λ r. ⌜ (r ≡ lined (line (n .answer ∷ n .code ∷ n .x ∷ n .y ∷ n .z ∷ []))) × (r .size ≤ 64) ⌝ }
+{
+    let mut text = [0u8; 64];
+    let size = put_line(&mut text, n);
+    Line {
+        text: text,
+        size: size,
+    }
 }

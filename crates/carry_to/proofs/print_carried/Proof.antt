@@ -2,6 +2,7 @@
 use mathlib.Core.Path.{sym}
 use lib.Seq.{length-take-le}
 use borrow.Author.Needs.{needs}
+use Rattle.text.proofs.Lined.{lined-within}
 use Rattle.carry_to.proofs.print_carried.Statement.{statement}
 use Rattle.carry_to.proofs.print_carried.Tie as tie
 
@@ -23,20 +24,17 @@ returns c = search needs
 returns-2 : tie.Need-returns-2
 returns-2 c = search needs
 
-slice-aggregate-put-line : tie.Need-slice-aggregate-put-line
-slice-aggregate-put-line c = search needs
-
 numbers-of-requires : tie.Need-numbers-of-requires
 numbers-of-requires c κs = search needs
 
-put-line-requires : tie.Need-put-line-requires
-put-line-requires c κs = search needs
+line-of-requires : tie.Need-line-of-requires
+line-of-requires c κs = search needs
 
-array-share-prefix-line : tie.Need-array-share-prefix-line
-array-share-prefix-line c = search needs
+array-share-prefix-text : tie.Need-array-share-prefix-text
+array-share-prefix-text c = lined-within _ _ (c .before .line-of .ensures .0)
 
 slice-aggregate-write-all-2 : tie.Need-slice-aggregate-write-all-2
-slice-aggregate-write-all-2 c = sym (length-take-le _ _ (search needs))
+slice-aggregate-write-all-2 c = sym (length-take-le _ _ (array-share-prefix-text (c .before)))
 
 write-all-requires-2 : tie.Need-write-all-requires-2
 write-all-requires-2 c κs = search needs
@@ -54,10 +52,9 @@ print-carried-spec =
     write-all-requires
     returns
     returns-2
-    slice-aggregate-put-line
     numbers-of-requires
-    put-line-requires
-    array-share-prefix-line
+    line-of-requires
+    array-share-prefix-text
     slice-aggregate-write-all-2
     write-all-requires-2
     returns-3)

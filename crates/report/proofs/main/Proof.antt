@@ -2,6 +2,7 @@
 use mathlib.Core.Path.{sym}
 use lib.Seq.{length-take-le}
 use borrow.Author.Needs.{needs}
+use Rattle.text.proofs.Lined.{lined-within}
 use Rattle.report.proofs.main.Statement.{statement}
 use Rattle.report.proofs.main.Tie as tie
 
@@ -17,17 +18,14 @@ array-share-prefix-input c = search needs
 slice-aggregate-report-line : tie.Need-slice-aggregate-report-line
 slice-aggregate-report-line c = search needs
 
-slice-aggregate-report-line-2 : tie.Need-slice-aggregate-report-line-2
-slice-aggregate-report-line-2 c = search needs
-
 report-line-requires : tie.Need-report-line-requires
 report-line-requires c κs = search needs
 
-array-share-prefix-line : tie.Need-array-share-prefix-line
-array-share-prefix-line c = search needs
+array-share-prefix-text : tie.Need-array-share-prefix-text
+array-share-prefix-text c = lined-within _ _ (c .before .report-line .ensures .0)
 
 slice-aggregate-write-all : tie.Need-slice-aggregate-write-all
-slice-aggregate-write-all c = sym (length-take-le _ _ (search needs))
+slice-aggregate-write-all c = sym (length-take-le _ _ (array-share-prefix-text (c .before)))
 
 write-all-requires : tie.Need-write-all-requires
 write-all-requires c κs = search needs
@@ -43,9 +41,8 @@ main-spec =
     read-full-requires
     array-share-prefix-input
     slice-aggregate-report-line
-    slice-aggregate-report-line-2
     report-line-requires
-    array-share-prefix-line
+    array-share-prefix-text
     slice-aggregate-write-all
     write-all-requires
     returns)
