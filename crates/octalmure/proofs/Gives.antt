@@ -8,7 +8,7 @@ use Rattle.model.specs.Calls.{checkCall, carryCall}
 use Rattle.octalmure.proofs.Promise.{Checks, Carries}
 
 -- a slice that is lent, by its contents
-ref : List ℕ → RefT (List ℕ)
+abbrev ref : List ℕ → RefT (List ℕ)
 ref l = record { ptr = (0, 0); name = 0; now = l }
 
 pub check-gives : (b a : List ℕ) → Bytes b → (r : ℕ) × (a′ : List ℕ) × Checks b a r a′
@@ -18,9 +18,9 @@ check-gives b a B =
       c .answer,
       record {
         of-bytes = B;
-        lifetimes = ([], [], tt);
-        lent = (ref b, ref a, tt);
-        back = (ref b, ref (c .answer), tt);
+        lifetimes = ([], ([], tt));
+        lent = (ref b, (ref a, tt));
+        back = (ref b, (ref (c .answer), tt));
         permitted = (refl, refl);
         file = refl;
         answer = refl;
@@ -36,9 +36,9 @@ carry-gives b H′ o a B =
       c .answer,
       record {
         of-bytes = B;
-        lifetimes = ([], [], [], tt);
-        lent = (ref b, H′, ref o, ref a, tt);
-        back = (ref b, H′, ref (c .output), ref (c .answer), tt);
+        lifetimes = ([], ([], ([], tt)));
+        lent = (ref b, (H′, (ref o, (ref a, tt))));
+        back = (ref b, (H′, (ref (c .output), (ref (c .answer), tt))));
         permitted = (refl, refl, refl);
         file = refl;
         horizon = refl;
