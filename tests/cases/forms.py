@@ -18,8 +18,12 @@ def record(file, k, printed):
     cases.append((RECORD, k, 0, file, b"", printed))
 
 
-def tasks(file, space, *rows):
-    cases.append((TASKS, space, 0, file, b"", lines(*rows)))
+# What stands in each entry of the lent list of 32 before a file is decoded into it.
+MARK = (71, 72, 73, 74, 75)
+
+
+def tasks(file, space, plan, *stored):
+    cases.append((TASKS, space, 0, file, b"", lines(plan, *stored, *[MARK] * (32 - len(stored)))))
 
 
 def shown(recorded, carried, task, job, printed):
@@ -48,15 +52,16 @@ DAMAGED = [one[:n] for n in range(0, len(one), 9)] + [
 for file in DAMAGED:
     record(file, 0, EMPTY)
 
-# The tasks: refusal, task and count, and then each task.
+# The tasks: refusal, task and count with so much space; and then a list of 32, in which entries past the last task keep their values
+# and a refusal changes none.
 tasks(one, 4, (0, 0, 4, 0, 0), *S)
 tasks(one, 32, (0, 0, 4, 0, 0), *S)
-tasks(one, 3, (11, 0, 0, 0, 0))
-tasks(one, 0, (11, 0, 0, 0, 0))
+tasks(one, 3, (11, 0, 0, 0, 0), *S)
+tasks(one, 0, (11, 0, 0, 0, 0), *S)
 tasks(nine, 1, (0, 0, 1, 0, 0), UNIT)
 MANY = [(1000 + i, 1 + i, 100 + i, i, 3 * i) for i in range(32)]
 tasks(run(1, 1, MANY, []), 32, (0, 0, 32, 0, 0), *MANY)
-tasks(run(1, 1, MANY, []), 31, (11, 0, 0, 0, 0))
+tasks(run(1, 1, MANY, []), 31, (11, 0, 0, 0, 0), *MANY)
 # the file's own refusals come first
 tasks(b"", 0, (1, 0, 0, 0, 0))
 tasks(run(*C10), 0, (6, 0, 0, 0, 0))

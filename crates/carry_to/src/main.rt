@@ -4,6 +4,10 @@ use carrier::carry_file;
 use libc::STDIN_FILENO;
 use libc::STDOUT_FILENO;
 use model::Answer;
+use reporting::MOST_READ;
+use reporting::most_read;
+use runfile::LONGEST_FILE;
+use runfile::longest_file;
 use runfile::num_at;
 use text::line_of;
 use wire::numbers_of;
@@ -23,12 +27,19 @@ fn print_carried(told: Answer, output: &[u8]) {
     io::write_all(STDOUT_FILENO, &text[..size]);
 }
 
+// Reads a file into a space as much as it holds, and carries it into another.
+fn carry_into(horizon: u32, space: &mut [u8], output: &mut [u8]) {
+    let n = io::read_full(STDIN_FILENO, space);
+    let told = carry_file(&space[..n], horizon, output);
+    print_carried(told, output);
+}
+
 fn main() {
     let mut four = [0u8; 4];
     io::read_full(STDIN_FILENO, &mut four);
-    let mut file = [0u8; 16384];
-    let n = io::read_full(STDIN_FILENO, &mut file);
-    let mut output = [0u8; 12948];
-    let told = carry_file(&file[..n], num_at(&four, 0), &mut output);
-    print_carried(told, &output);
+    let most = most_read();
+    let longest = longest_file();
+    let mut space = [0u8; MOST_READ];
+    let mut output = [0u8; LONGEST_FILE];
+    carry_into(num_at(&four, 0), &mut space[..most], &mut output[..longest]);
 }

@@ -2,7 +2,7 @@
 use crate::checking::print_numbers;
 use held::record_of;
 use lent::planned;
-use lent::tasks_of;
+use lent::tasks_over;
 use libc::STDOUT_FILENO;
 use model::Task;
 use shown::shown;
@@ -34,21 +34,30 @@ fn print_task(task: Task) {
     });
 }
 
-// What is decoded into a list with room for so many tasks: the refusal and the count, and then the tasks, of which there are none
-// where the file is refused.
+// A task of five different numbers, which no case has.
+const MARK: Task = Task {
+    period: 71,
+    least: 72,
+    greatest: 73,
+    offset: 74,
+    jitter: 75,
+};
+
+// What is decided of a list with room for so many tasks: the refusal and the count. Then all of a list with room for every task, in
+// which each entry was that one before the file was decoded into it.
 pub(crate) fn tasks_case(file: &[u8], room: u32) {
     let plan = planned(file, room as usize);
+    let count = plan.count as u32;
     print_numbers(Numbers {
         answer: plan.number,
         code: plan.task,
-        x: plan.count as u32,
+        x: count,
         y: 0,
         z: 0,
     });
-    let tasks = tasks_of(file);
-    let n = plan.count;
+    let tasks = tasks_over(file, MARK);
     let mut i = 0;
-    while i < n {
+    while i < 32 {
         print_task(tasks.list[i]);
         i += 1;
     }

@@ -10,6 +10,7 @@ use Rattle.judging.specs.declared.refusal.Refusal.{Refusal}
 use Rattle.lent.specs.declared.Stored.{Stored}
 use Rattle.lent.specs.Lent.{refusalIn, Stores}
 use Rattle.lent.proofs.planned.Reads as planned
+use Rattle.lent.proofs.tasks_over.Reads as tasks-over
 use Rattle.lent.proofs.tasks_of.Reads as tasks-of
 
 -- an answer is a refusal and a count
@@ -22,6 +23,9 @@ planned-once κs args _ r r′ exit exit′ p q =
     let P = p (replicate room noTask) (length-replicate room noTask) in
     let Q = q (replicate room noTask) (length-replicate room noTask) in
     stored-once r r′ (P .refusal ∙ sym (Q .refusal)) (P .count ∙ sym (Q .count))
+
+pub tasks-over-once : Once tasks-over.Pre tasks-over.Post (λ r exit. r)
+tasks-over-once κs args _ r r′ exit exit′ p q = λ κ. record { list = (p ∙ sym q) κ }
 
 pub tasks-of-once : Once tasks-of.Pre tasks-of.Post (λ r exit. r)
 tasks-of-once κs args _ r r′ exit exit′ p q = λ κ. record { list = (p ∙ sym q) κ }

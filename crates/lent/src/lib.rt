@@ -78,9 +78,28 @@ pub fn decode_tasks(file: &[u8], list: &mut [Task]) -> Stored
     d
 }
 
-// A list of tasks of zeros, as long as a file can have tasks.
-fn no_list() -> [Task; 32]
-    ensures { λ r. ⌜ r ≡ replicate 32 noTask ⌝ }
+// The tasks of a file in a list that is given by value and lent to the decoding.
+fn list_of(file: &[u8], list: [Task; 32]) -> [Task; 32]
+    ensures { λ r. ⌜ r ≡ decoded (now (file .entry)) list .list ⌝ }
+{
+    let mut own = list;
+    let d = decode_tasks(file, &mut own);
+    own
+}
+
+// The tasks of a file as a value, decoded into a list of 32 that is filled with one task: that task after the file's, and nothing else
+// if the file is refused.
+pub fn tasks_over(file: &[u8], fill: Task) -> Tasks
+    ensures { λ r. ⌜ r .list ≡ decoded (now (file .entry)) (replicate 32 fill) .list ⌝ }
+{
+    let filled = [fill; 32];
+    let list = list_of(file, filled);
+    Tasks { list: list }
+}
+
+// The same with tasks of zeros.
+pub fn tasks_of(file: &[u8]) -> Tasks
+    ensures { λ r. ⌜ r .list ≡ decoded (now (file .entry)) (replicate 32 noTask) .list ⌝ }
 {
     let none = Task {
         period: 0,
@@ -89,22 +108,5 @@ fn no_list() -> [Task; 32]
         offset: 0,
         jitter: 0,
     };
-    [none; 32]
-}
-
-// The tasks of a file in a list of this function's own, which is lent to the decoding.
-fn list_of(file: &[u8]) -> [Task; 32]
-    ensures { λ r. ⌜ r ≡ decoded (now (file .entry)) (replicate 32 noTask) .list ⌝ }
-{
-    let mut list = no_list();
-    let d = decode_tasks(file, &mut list);
-    list
-}
-
-// The same as a value: tasks of zeros after the file's, and nothing else if the file is refused.
-pub fn tasks_of(file: &[u8]) -> Tasks
-    ensures { λ r. ⌜ r .list ≡ decoded (now (file .entry)) (replicate 32 noTask) .list ⌝ }
-{
-    let list = list_of(file);
-    Tasks { list: list }
+    tasks_over(file, none)
 }

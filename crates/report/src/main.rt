@@ -2,13 +2,20 @@
 use libc::STDIN_FILENO;
 use libc::STDOUT_FILENO;
 use reporting::MOST_READ;
+use reporting::most_read;
 use reporting::report_line;
 
-fn main() {
-    let mut input = [0u8; MOST_READ];
-    let n = io::read_full(STDIN_FILENO, &mut input);
-    let line = report_line(&input[..n]);
+// Reads into a space as much as it holds, and prints the line.
+fn report_into(space: &mut [u8]) {
+    let n = io::read_full(STDIN_FILENO, space);
+    let line = report_line(&space[..n]);
     let text = line.text;
     let size = line.size;
     io::write_all(STDOUT_FILENO, &text[..size]);
+}
+
+fn main() {
+    let most = most_read();
+    let mut space = [0u8; MOST_READ];
+    report_into(&mut space[..most]);
 }

@@ -1,15 +1,21 @@
-// The report's line for the bytes that were read.
+// The report's line for the bytes that were read, and how many are.
 use checker::check_file;
 use text::Line;
 use text::line_of;
 use wire::numbers_of;
 ghost use mathlib.Core.Path.{_≡_};
 ghost use Prim.Native.Nat.{_≤_};
-ghost use Rattle.model.specs.Report.{report};
+ghost use Rattle.model.specs.Report.{mostRead, report};
 ghost use Rattle.text.specs.Lined.{lined};
 
-// How many bytes of standard input are read at most.
 pub const MOST_READ: usize = 16_384;
+
+// How many bytes of standard input are read at most.
+pub fn most_read() -> usize
+    ensures { λ r. ⌜ r ≡ mostRead ⌝ }
+{
+    MOST_READ
+}
 
 // The line.
 pub fn report_line(input: &[u8]) -> Line

@@ -10,6 +10,7 @@ use Rattle.runfile.proofs.entry.records_place.Reads as records-place
 use Rattle.runfile.proofs.entry.count_after.Reads as count-after
 use Rattle.runfile.proofs.entry.record_count.Reads as record-count
 use Rattle.runfile.proofs.entry.record_at.Reads as record-at
+use Rattle.runfile.proofs.entry.longest_file.Reads as longest-file
 use Rattle.runfile.proofs.column.read_records.Reads as read-records
 
 pub num-at-once : Once num-at.Pre num-at.Post (λ r exit. r)
@@ -35,6 +36,9 @@ count-after-once κs args _ r r′ exit exit′ p q = p ∙ sym q
 
 pub record-at-once : Once record-at.Pre record-at.Post (λ r exit. r)
 record-at-once κs args _ r r′ exit exit′ p q = p ∙ sym q
+
+pub longest-file-once : Once longest-file.Pre longest-file.Post (λ r exit. r)
+longest-file-once κs args _ r r′ exit exit′ p q = p ∙ sym q
 
 -- the six columns
 pub read-records-once : Once read-records.Pre read-records.Post (λ r exit.

@@ -1,11 +1,11 @@
-// The entries of a file's sections, and where they stand.
+// The entries of a file's sections, where they stand, and how long a file can be.
 use crate::number::num_at;
 use model::Record;
 use model::Setting;
 use model::Task;
 ghost use mathlib.Core.Path.{_≡_};
 ghost use Prim.Native.Nat.{_+_, _*_};
-ghost use Rattle.model.specs.File.{num, settingAt, taskAt, recordAt, tasksPlace, recordsPlace, taskSize, recordSize};
+ghost use Rattle.model.specs.File.{num, settingAt, taskAt, recordAt, tasksPlace, recordsPlace, longestFile, taskSize, recordSize};
 
 pub fn setting_of(file: &[u8]) -> Setting
     ensures { λ r. ⌜ r ≡ settingAt (now (file .entry)) 4 ⌝ }
@@ -69,4 +69,13 @@ pub fn record_at(file: &[u8], at: u32, k: u32) -> Record
         end: num_at(file, from + 16),
         core: num_at(file, from + 20),
     }
+}
+
+pub const LONGEST_FILE: usize = 12_948;
+
+// How many bytes the longest file has that is read through.
+pub fn longest_file() -> usize
+    ensures { λ r. ⌜ r ≡ longestFile ⌝ }
+{
+    LONGEST_FILE
 }

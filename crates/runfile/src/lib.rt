@@ -4,7 +4,9 @@ mod entry;
 mod number;
 
 pub use column::read_records;
+pub use entry::LONGEST_FILE;
 pub use entry::count_after;
+pub use entry::longest_file;
 pub use entry::record_at;
 pub use entry::record_count;
 pub use entry::records_place;

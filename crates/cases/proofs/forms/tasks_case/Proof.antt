@@ -1,4 +1,4 @@
--- No more tasks are printed than a list has. Assumes nothing.
+-- A plan's count is small, and no more tasks are printed than a list has. Assumes nothing.
 use Prim.Native.Nat.{ℕ, _-_, _≤_}
 use mathlib.Core.Path.{_≡_}
 use mathlib.Core.List.{List}
@@ -17,25 +17,25 @@ few : {b : List ℕ} (room : ℕ) {r : Stored} → ((list : List Task) → lengt
 few room f = f (replicate room noTask) (length-replicate room noTask) .few
 
 abbrev Inv-loop : tie.InvT-loop
-Inv-loop file room tasks n i₀ i = (n ≤ 32) × (i ≤ n)
+Inv-loop file room count tasks i₀ i = i ≤ 32
 
 abbrev μ-loop : tie.MeasureT-loop
-μ-loop file room tasks n i₀ i = n - i
+μ-loop file room count tasks i₀ i = 32 - i
 
 planned-requires : tie.Need-planned-requires Inv-loop μ-loop
 planned-requires c κs = search needs
 
-cast-t9 : tie.Need-cast-t9 Inv-loop μ-loop
-cast-t9 c = let m = few _ (c .before .planned .ensures) in omega arith
+cast-count : tie.Need-cast-count Inv-loop μ-loop
+cast-count c = let m = few _ (c .before .planned .ensures) in omega arith
 
 print-numbers-requires : tie.Need-print-numbers-requires Inv-loop μ-loop
 print-numbers-requires c κs = search needs
 
-tasks-of-requires : tie.Need-tasks-of-requires Inv-loop μ-loop
-tasks-of-requires c κs = search needs
+tasks-over-requires : tie.Need-tasks-over-requires Inv-loop μ-loop
+tasks-over-requires c κs = search needs
 
 loop-holds : tie.Need-loop-holds Inv-loop μ-loop
-loop-holds c = (few _ (c .before .before .before .planned .ensures), search needs)
+loop-holds c = search needs
 
 mul-print-task : tie.Need-mul-print-task Inv-loop μ-loop
 mul-print-task c = search needs
@@ -65,9 +65,9 @@ tasks-case-spec =
     Inv-loop
     μ-loop
     planned-requires
-    cast-t9
+    cast-count
     print-numbers-requires
-    tasks-of-requires
+    tasks-over-requires
     loop-holds
     mul-print-task
     element-copy-out-print-task

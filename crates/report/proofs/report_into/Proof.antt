@@ -1,19 +1,16 @@
--- The bounds of the two slices. Assumes nothing.
+-- What is written lies in the line. Assumes nothing.
 use mathlib.Core.Path.{sym}
 use lib.Seq.{length-take-le}
 use borrow.Author.Needs.{needs}
 use Rattle.text.proofs.Lined.{lined-within}
-use Rattle.report.proofs.main.Statement.{statement}
-use Rattle.report.proofs.main.Tie as tie
-
-slice-aggregate-read-full : tie.Need-slice-aggregate-read-full
-slice-aggregate-read-full c = search needs
+use Rattle.report.proofs.report_into.Statement.{statement}
+use Rattle.report.proofs.report_into.Tie as tie
 
 read-full-requires : tie.Need-read-full-requires
 read-full-requires c κs = search needs
 
-array-share-prefix-input : tie.Need-array-share-prefix-input
-array-share-prefix-input c = search needs
+slice-reshare-prefix-report-line : tie.Need-slice-reshare-prefix-report-line
+slice-reshare-prefix-report-line c = search needs
 
 slice-aggregate-report-line : tie.Need-slice-aggregate-report-line
 slice-aggregate-report-line c = search needs
@@ -30,19 +27,22 @@ slice-aggregate-write-all c = sym (length-take-le _ _ (array-share-prefix-text (
 write-all-requires : tie.Need-write-all-requires
 write-all-requires c κs = search needs
 
+same-length : tie.Need-same-length
+same-length c = search needs
+
 returns : tie.Need-returns
 returns c = search needs
 
-pub main-spec : {M : Type 1} → statement M
-main-spec =
+pub report-into-spec : {M : Type 1} → statement M
+report-into-spec =
     tie.close
     (tie.spec
-    slice-aggregate-read-full
     read-full-requires
-    array-share-prefix-input
+    slice-reshare-prefix-report-line
     slice-aggregate-report-line
     report-line-requires
     array-share-prefix-text
     slice-aggregate-write-all
     write-all-requires
+    same-length
     returns)
