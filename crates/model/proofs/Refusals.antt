@@ -1,5 +1,5 @@
 -- What each refusal is given exactly when: `read` refuses with the number of the first fault, and else tells the run. Assumes nothing.
-use Prim.Native.Nat.{ℕ, _+_, _*_, _≤_, _<_}
+use Prim.Native.Nat.{ℕ, _+_, _≤_, _<_}
 use mathlib.Core.Path.{_≡_, refl, sym, subst, _∙_, ap}
 use mathlib.Core.Logic.{_↔_, _⊎_, inl, inr}
 use mathlib.Core.Bool.{Bool, true, false}
@@ -11,7 +11,7 @@ use Rattle.base.specs.First.{First}
 use Rattle.base.proofs.Test.{Says, says-leb, says-eqb, decides, stable}
 use Rattle.base.proofs.Finds.{Finds, total-number, first-unique}
 use Rattle.model.specs.Model.{Run, TaskInRange, mostTasks, mostJobs, mostRecords, totalJobs, task}
-use Rattle.model.specs.File.{Read, refused, whole, num, settingAt, tasksPlace, recordsPlace, recordSize, gate, gateTask, runAt, readRecords, readTasks, read}
+use Rattle.model.specs.File.{Read, refused, whole, num, settingAt, tasksPlace, recordsPlace, sizeOf, gate, gateTask, runAt, readRecords, readTasks, read}
 use Rattle.model.specs.Answers.{Five, refusal, Verdict}
 use Rattle.model.specs.Refusals.{Asked, FirstFault, NoFault, taskCount, tasksTold, recordCount, runIn, askedOfFile, Names}
 use Rattle.model.specs.Compute.Limits.{badTask}
@@ -165,8 +165,8 @@ module _ (b : List ℕ) where
       (asked 6 (λ e. omega (arith, e)) _ _ _ _ (says-leb (totalJobs (tasksTold b) (settingAt b 4 .horizon)) mostJobs)
       (asked 1 (λ e. omega (arith, e)) _ _ _ _ (says-leb (recordsPlace (taskCount b) + 4) (length b))
       (asked 7 (λ e. omega (arith, e)) _ _ _ _ (says-leb (recordCount b) mostRecords)
-      (asked 1 (λ e. omega (arith, e)) _ _ _ _ (says-leb (recordsPlace (taskCount b) + 4 + recordSize * recordCount b) (length b))
-      (asked 8 (λ e. omega (arith, e)) _ _ _ _ (says-leb (length b) (recordsPlace (taskCount b) + 4 + recordSize * recordCount b))
+      (asked 1 (λ e. omega (arith, e)) _ _ _ _ (says-leb (sizeOf (taskCount b) (recordCount b)) (length b))
+      (asked 8 (λ e. omega (arith, e)) _ _ _ _ (says-leb (length b) (sizeOf (taskCount b) (recordCount b)))
       (Comes.passes tt refl)))))))))))))
 
   check-comes : ReadComes (askedOfFile b) (read b) → Comes refusal (verdict (runIn b)) (Names b) (askedOfFile b) (check b)

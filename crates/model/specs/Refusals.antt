@@ -1,7 +1,7 @@
 -- Document 01, the table of refusals: what each number is given exactly when. What is asked of any bytes, in the order in which they are
 -- judged, each with the number of the refusal that is given where it does not hold. That `read`, `check` and `carry` refuse so is
 -- `refused-exactly-when`, `check-refuses` and `carry-refuses`.
-use Prim.Native.Nat.{ℕ, _+_, _*_, _≤_, _<_}
+use Prim.Native.Nat.{ℕ, _+_, _≤_, _<_}
 use mathlib.Core.Path.{_≡_}
 use mathlib.Core.Logic.{_⊎_}
 use mathlib.Core.List.{List, [], _∷_, _++_}
@@ -9,7 +9,7 @@ use lib.ListN.{length}
 use Rattle.base.specs.First.{First}
 use Rattle.model.specs.declared.task.Task.{Task}
 use Rattle.model.specs.Model.{Run, SettingInRange, TaskInRange, mostHorizon, mostTasks, mostJobs, mostRecords, totalJobs, task}
-use Rattle.model.specs.File.{num, settingAt, tasksPlace, recordsPlace, recordSize, tasksIn, runAt, sizeOf}
+use Rattle.model.specs.File.{num, settingAt, tasksPlace, recordsPlace, tasksIn, runAt, sizeOf}
 use Rattle.model.specs.Rules.{Obeys}
 
 -- The file is judged from the front and the first fault met is the answer.
@@ -61,8 +61,8 @@ module _ (b : List ℕ) where
       -- the record count, the records, and nothing after them
       ∷ (1, recordsPlace taskCount + 4 ≤ length b)
       ∷ (7, recordCount ≤ mostRecords)
-      ∷ (1, recordsPlace taskCount + 4 + recordSize * recordCount ≤ length b)
-      ∷ (8, length b ≤ recordsPlace taskCount + 4 + recordSize * recordCount)
+      ∷ (1, sizeOf taskCount recordCount ≤ length b)
+      ∷ (8, length b ≤ sizeOf taskCount recordCount)
       ∷ []
 
   -- 5 names the least task out of its ranges; every other refusal names 0
