@@ -1,4 +1,4 @@
--- Demand 2 on definitions: accepted exactly if all eight rules hold; otherwise the lowest broken rule and its first place; the late
+-- Demand 2 on definitions: accepted exactly if all rules hold; otherwise the lowest broken rule and its first place; the late
 -- jobs counted exactly. Assumes nothing.
 use Prim.Native.Nat.{ℕ, zero, suc, _≤_, _<_}
 use mathlib.Core.Path.{_≡_, refl, sym, _∙_, ap}

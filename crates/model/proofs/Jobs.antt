@@ -3,13 +3,14 @@ use Prim.Native.Nat.{ℕ, zero, suc, _+_, _*_, _-_, _/_, _≤_, _<_}
 use mathlib.Core.Path.{_≡_, refl, sym, _∙_, ap}
 use mathlib.Core.Logic.{_⊎_, inl, inr, _↔_}
 use mathlib.Core.List.{List, [], _∷_, _++_}
+use native.Mathlib.Numerals.{add-one}
 use native.Mathlib.Omega.{arith}
 use native.Mathlib.Decide.{decLt}
 use native.Mathlib.Nat.{not-suc-le-zero, le-of-suc-le-suc, le-div-iff-mul-le, add-zero, div-zero, add-div-right}
-use lib.ListN.{length, getD, length-append, List·getD-append}
-use lib.Seq.{getD-append-add}
+use lib.ListN.{length, getD, take, length-append, List·getD-append}
+use lib.Seq.{getD-append-add, take-suc}
 use Rattle.model.specs.declared.task.Task.{Task}
-use Rattle.model.specs.Model.{Job, Exists, task, jobCount, countUp, jobsFrom, counts, jobs, sum, totalJobs}
+use Rattle.model.specs.Model.{Run, Job, Exists, task, noTask, jobCount, countUp, jobsFrom, counts, jobs, sum, totalJobs, existing}
 
 -- How many jobs a task has
 -- ------------------------
@@ -195,6 +196,61 @@ at-counts : (τs : List Task) (H m : ℕ) → m < length τs → getD (counts τ
 at-counts [] H m h = absurd (not-suc-le-zero h)
 at-counts (τ ∷ τs) H zero h = refl
 at-counts (τ ∷ τs) H (suc m) h = at-counts τs H m (le-of-suc-le-suc h)
+
+-- Where the jobs of a task stand: after those of the tasks before it
+-- -------------------------------------------------------------------
+
+-- how many jobs the first i tasks have
+abbrev pub jobsBefore : List Task → ℕ → ℕ → ℕ
+jobsBefore τs H i = totalJobs (take i τs) H
+
+pub before-on : (τs : List Task) (H i : ℕ) → i < length τs → jobsBefore τs H (i + 1) ≡ jobsBefore τs H i + jobCount (task τs i) H
+before-on τs H i h = rw (add-one i, take-suc τs i noTask h) (jobs-on (take i τs) (task τs i) H)
+
+pub before-within : (τs : List Task) (H i : ℕ) → jobsBefore τs H i ≤ totalJobs τs H
+before-within [] H zero = omega arith
+before-within [] H (suc i) = omega arith
+before-within (τ ∷ τs) H zero = omega arith
+before-within (τ ∷ τs) H (suc i) = omega (arith, before-within τs H i)
+
+job-at-from : (m : ℕ) (τs : List Task) (H i j : ℕ) → i < length τs → j < jobCount (task τs i) H
+    → getD (jobsFrom m (counts τs H)) (jobsBefore τs H i + j) none ≡ (m + i, j)
+job-at-from m [] H i j h l = absurd (not-suc-le-zero h)
+job-at-from m (τ ∷ τs) H zero j h l =
+    let front = countUp m 0 (jobCount τ H) in
+    let e : m ≡ m + 0 = omega arith in
+    let z : 0 + j ≡ j = omega arith in
+    ap (λ k. getD (front ++ jobsFrom (suc m) (counts τs H)) k none) z
+    ∙ List·getD-append front (jobsFrom (suc m) (counts τs H)) none j (rw (length-countUp m 0 (jobCount τ H)) l)
+    ∙ at-countUp m 0 (jobCount τ H) j l
+    ∙ (λ κ. (e κ, z κ))
+job-at-from m (τ ∷ τs) H (suc i) j h l =
+    let front = countUp m 0 (jobCount τ H) in
+    let e : suc m + i ≡ m + suc i = omega arith in
+    let at : jobCount τ H + jobsBefore τs H i + j ≡ length front + (jobsBefore τs H i + j) = omega (arith, length-countUp m 0 (jobCount τ H)) in
+    ap (λ k. getD (front ++ jobsFrom (suc m) (counts τs H)) k none) at
+    ∙ getD-append-add front (jobsFrom (suc m) (counts τs H)) (jobsBefore τs H i + j) none
+    ∙ job-at-from (suc m) τs H i j (le-of-suc-le-suc h) l
+    ∙ (λ κ. (e κ, j))
+
+pub job-at : (τs : List Task) (H i j : ℕ) → i < length τs → j < jobCount (task τs i) H → getD (jobs τs H) (jobsBefore τs H i + j) (0, 0) ≡ (i, j)
+job-at τs H i j h l = job-at-from 0 τs H i j h l ∙ (λ κ. (z κ, j))
+  where
+    z : 0 + i ≡ i
+    z = omega arith
+
+-- The existing jobs of a run are those of its tasks
+-- -------------------------------------------------
+pub existing-jobs : (ρ : Run) (H : ℕ) → existing ρ H ≡ jobs (ρ .tasks) H
+unfolding existing
+existing-jobs ρ H = refl
+
+-- as many as refusal 6 counts
+pub existing-total : (ρ : Run) (H : ℕ) → length (existing ρ H) ≡ totalJobs (ρ .tasks) H
+existing-total ρ H = ap length (existing-jobs ρ H) ∙ length-jobs (ρ .tasks) H
+
+-- Which exist
+-- -----------
 
 -- Every task has a period.
 abbrev pub Good : List Task → Type 0

@@ -7,7 +7,7 @@ use mathlib.Core.Option.{none}
 use native.Mathlib.Omega.{arith}
 use lib.ListN.{length}
 use Rattle.base.proofs.Test.{Says, says-leb, says-ltb, says-and, says-not, says-map, stable}
-use Rattle.base.proofs.Finds.{Finds, first-finds, finds-same, finds-none}
+use Rattle.base.proofs.Searches.{Finds, first-finds, finds-same, finds-none}
 use Rattle.model.specs.declared.setting.Setting.{Setting}
 use Rattle.model.specs.declared.task.Task.{Task}
 use Rattle.model.specs.Model.{mostCores, mostHorizon, mostPeriod, mostTime, mostOffset, SettingInRange, TaskInRange, task}

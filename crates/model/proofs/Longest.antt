@@ -5,7 +5,7 @@ use mathlib.Core.List.{List}
 use native.Mathlib.Omega.{arith}
 use lib.ListN.{length, replicate, length-replicate, getD-replicate}
 use Rattle.model.specs.declared.task.Task.{Task}
-use Rattle.model.specs.Model.{Run, IsRecord, WithinLimits, TaskInRange, noTask, noRecord, rec, jobCount, totalJobs, mostJobs}
+use Rattle.model.specs.Model.{Run, IsRecord, WithinLimits, TaskInRange, noTask, noRecord, rec, jobCount, totalJobs, mostTasks, mostJobs, mostRecords}
 use Rattle.model.specs.File.{recordNumbers, RecordFits, bytes, longestFile, read, whole}
 use Rattle.model.proofs.RoundTrip.{Fits, fits-nil, fits-cons, length-bytes, read-back}
 
@@ -17,8 +17,8 @@ full : Run
 full =
     record {
       setting = record { cores = 1; horizon = 1 };
-      tasks = replicate 32 one-tick;
-      records = replicate 512 noRecord;
+      tasks = replicate mostTasks one-tick;
+      records = replicate mostRecords noRecord;
     }
 
 in-range : TaskInRange one-tick
@@ -37,12 +37,12 @@ no-job = omega arith
 within : WithinLimits full
 unfolding full
 within =
-    let N = length-replicate 32 one-tick in
-    let M = length-replicate 512 noRecord in
+    let N = length-replicate mostTasks one-tick in
+    let M = length-replicate mostRecords noRecord in
     record {
       setting = record { cores = (omega arith, omega arith); horizon = (omega arith, omega arith) };
       task-count = (omega arith, omega arith);
-      tasks = λ i h. rw (getD-replicate 32 i one-tick noTask (omega arith)) in-range;
+      tasks = λ i h. rw (getD-replicate mostTasks i one-tick noTask (omega arith)) in-range;
       job-count = no-job;
       record-count = omega arith;
     }
@@ -55,15 +55,15 @@ zeros =
 fits : (k : ℕ) → IsRecord full k → RecordFits (rec full k)
 unfolding full
 fits k h =
-    let M = length-replicate 512 noRecord in
-    let e = getD-replicate 512 k noRecord noRecord (omega arith) in
+    let M = length-replicate mostRecords noRecord in
+    let e = getD-replicate mostRecords k noRecord noRecord (omega arith) in
     subst (λ x. RecordFits x) (sym e) (zeros .at)
 
 size : length (bytes full) ≡ longestFile
 unfolding full
 size =
-    let N = length-replicate 32 one-tick in
-    let M = length-replicate 512 noRecord in
+    let N = length-replicate mostTasks one-tick in
+    let M = length-replicate mostRecords noRecord in
     let l = length-bytes full in
     omega arith
 

@@ -2,12 +2,12 @@
 use Prim.Native.Nat.{ℕ, zero, suc, _+_, _-_, _≤_, _<_}
 use mathlib.Core.Path.{_≡_, refl, sym, _∙_, ap}
 use mathlib.Core.Logic.{inl, inr, _↔_}
-use mathlib.Core.Option.{Option, none, some}
+use mathlib.Core.List.{List, [], _∷_, map}
+use mathlib.Core.Option.{none, some}
 use native.Mathlib.Omega.{arith}
-use lib.ListN.{length}
-use Rattle.base.specs.Find.{firstOf}
+use lib.ListN.{length, getD, List·getD-map}
 use Rattle.base.specs.First.{First, Lex}
-use Rattle.base.proofs.Finds.{Finds, Total, total-lex, finds-none, finds-some, firstOf-finds}
+use Rattle.base.proofs.Searches.{Finds, total-lex, finds-none, finds-some, firstOf-finds}
 use Rattle.model.specs.Model.{Run}
 use Rattle.model.specs.Rules.{Rule, rule1, rule2, rule3, rule4, rule5, rule6, rule7, rule8, rule, inOrder, Place, Before, Holds, Obeys, BrokenAt, FirstPlace}
 use Rattle.model.specs.Answers.{number}
@@ -26,7 +26,7 @@ rule-number rule6 = refl
 rule-number rule7 = refl
 rule-number rule8 = refl
 
-number-range : (ν : Rule) → (1 ≤ number ν) × (number ν < 1 + length inOrder)
+pub number-range : (ν : Rule) → (1 ≤ number ν) × (number ν < 1 + length inOrder)
 number-range rule1 = omega arith
 number-range rule2 = omega arith
 number-range rule3 = omega arith
@@ -36,17 +36,25 @@ number-range rule6 = omega arith
 number-range rule7 = omega arith
 number-range rule8 = omega arith
 
+-- In order they have the numbers from 1 on.
+abbrev upFrom : ℕ → ℕ → List ℕ
+upFrom i zero = []
+upFrom i (suc n) = i ∷ upFrom (suc i) n
+
+at-upFrom : (i n k d : ℕ) → k < n → getD (upFrom i n) k d ≡ i + k
+at-upFrom i zero k d h = absurd (omega arith)
+at-upFrom i (suc n) zero d h = omega arith
+at-upFrom i (suc n) (suc k) d h = at-upFrom (suc i) n k d (omega arith) ∙ omega arith
+
+in-numbers : map number inOrder ≡ upFrom 1 (length inOrder)
+in-numbers = refl
+
 number-rule : (i : ℕ) → 1 ≤ i → i < 1 + length inOrder → number (rule i) ≡ i
-number-rule zero h l = absurd (omega arith)
-number-rule (suc zero) h l = refl
-number-rule (suc (suc zero)) h l = refl
-number-rule (suc (suc (suc zero))) h l = refl
-number-rule (suc (suc (suc (suc zero)))) h l = refl
-number-rule (suc (suc (suc (suc (suc zero))))) h l = refl
-number-rule (suc (suc (suc (suc (suc (suc zero)))))) h l = refl
-number-rule (suc (suc (suc (suc (suc (suc (suc zero))))))) h l = refl
-number-rule (suc (suc (suc (suc (suc (suc (suc (suc zero)))))))) h l = refl
-number-rule (suc (suc (suc (suc (suc (suc (suc (suc (suc i))))))))) h l = absurd (omega arith)
+number-rule i h l =
+    sym (List·getD-map number inOrder (i - 1) rule1)
+    ∙ ap (λ ns. getD ns (i - 1) (number rule1)) in-numbers
+    ∙ at-upFrom 1 (length inOrder) (i - 1) (number rule1) (omega arith)
+    ∙ omega arith
 
 -- What `lowest` finds.
 -- --------------------

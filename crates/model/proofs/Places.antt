@@ -8,15 +8,16 @@ use mathlib.Core.Option.{Option, none, some, Option·map}
 use native.Mathlib.Omega.{arith}
 use native.Mathlib.Decide.{decLt}
 use lib.ListN.{length, getElem?}
+use Rattle.base.proofs.Arrays.{entry-past}
 use Rattle.base.specs.Find.{first, firstOf}
 use Rattle.base.specs.First.{First, Lex}
 use Rattle.base.proofs.Test.{Says, says-not, stable}
-use Rattle.base.proofs.Finds.{Finds, Total, total-number, total-lex, finds-none, finds-some, first-finds, firstOf-finds, finds-along, finds-same}
+use Rattle.base.proofs.Searches.{Finds, Total, total-number, total-lex, finds-none, finds-some, first-finds, firstOf-finds, finds-along, finds-same}
 use Rattle.model.specs.Model.{Run, Job, IsRecord, rec, existing, ready}
 use Rattle.model.specs.Rules
 use Rattle.model.specs.Rules.{Rule, rule1, rule2, rule3, rule4, rule5, rule6, rule7, rule8, Place, OfOne, OfTwo, OfThree, Before, Holds, BrokenAt, FirstPlace, jobsRecorded, Differ, Fails, Overlap, OutOfOrder, Idles, Released, Started, Lasted, IsCore, OnOneCore, Apart, StartsBefore, InOrder, Waits, Busy}
 use Rattle.model.specs.Compute.Places.{one, two, three, sameEntry, size, differ, released, started, lasted, isCore, overlap, outOfOrder, busy, idleCore, idle, firstBad, find}
-use Rattle.model.proofs.Tests.{says-same-entry, says-released, says-started, says-lasted, says-core, says-apart, says-overlap, says-in-order, says-out-of-order, says-busy}
+use Rattle.model.proofs.RuleTests.{says-same-entry, says-released, says-started, says-lasted, says-core, says-apart, says-overlap, says-in-order, says-out-of-order, says-busy}
 
 -- What is found, as a place.
 -- --------------------------
@@ -49,25 +50,20 @@ module _ (ρ : Run) where
       (finds-same (λ k h. (omega (arith, h .1), h .2)) (λ k h. (omega arith, omega (arith, h .0), h .1))
       (first-finds (λ k. not (good k)) _ (λ k. says-not (S k)) 0 (size ρ)))
 
-  past : (l : List Job) (k : ℕ) → length l ≤ k → getElem? l k ≡ none
-  past [] k h = refl
-  past (x ∷ l) zero h = absurd (omega arith)
-  past (x ∷ l) (suc k) h = past l k (omega arith)
-
   -- two lists differ only before the end of the longer
-  pub differ-within : (k : ℕ) → Differ ρ k → k < max (length (jobsRecorded ρ)) (length (existing ρ))
-  differ-within k h = go (decLt k (max (length (jobsRecorded ρ)) (length (existing ρ))))
+  pub differ-within : (k : ℕ) → Differ ρ k → k < max (length (jobsRecorded ρ)) (length (existing ρ (ρ .setting .horizon)))
+  differ-within k h = go (decLt k (max (length (jobsRecorded ρ)) (length (existing ρ (ρ .setting .horizon)))))
     where
-      go : Dec (k < max (length (jobsRecorded ρ)) (length (existing ρ))) → k < max (length (jobsRecorded ρ)) (length (existing ρ))
+      go : Dec (k < max (length (jobsRecorded ρ)) (length (existing ρ (ρ .setting .horizon)))) → k < max (length (jobsRecorded ρ)) (length (existing ρ (ρ .setting .horizon)))
       go (yes l) = l
-      go (no l) = absurd (h (past (jobsRecorded ρ) k (omega (arith, l)) ∙ sym (past (existing ρ) k (omega (arith, l)))))
+      go (no l) = absurd (h (entry-past (jobsRecorded ρ) k (omega (arith, l)) ∙ sym (entry-past (existing ρ (ρ .setting .horizon)) k (omega (arith, l)))))
 
   differ-finds : Finds Before (OfOne (Differ ρ)) (find rule1 ρ)
   unfolding find
   differ-finds =
       finds-one (Differ ρ) _
       (finds-same (λ k h. h .2) (λ k h. (omega arith, omega (arith, differ-within k h), h))
-      (first-finds (differ ρ) _ (λ k. says-not (says-same-entry _ _)) 0 (max (length (jobsRecorded ρ)) (length (existing ρ)))))
+      (first-finds (differ ρ) _ (λ k. says-not (says-same-entry _ _)) 0 (max (length (jobsRecorded ρ)) (length (existing ρ (ρ .setting .horizon))))))
 
   overlap-finds : Finds Before (OfTwo (Overlap ρ)) (find rule6 ρ)
   unfolding find
@@ -159,8 +155,8 @@ holds-nowhere rule8 ρ = (
   λ f a h t w c i. stable (says-busy ρ c t) (λ v. f (three (a, (t, c))) (h, w, i, v)),
 )
 
--- Sound, complete, least, for all eight.
--- --------------------------------------
+-- Sound, complete, least, for every rule.
+-- ---------------------------------------
 pub total-place : Total Before
 total-place p q = go (total-lex (total-lex total-number) (p .x, (p .y, p .z)) (q .x, (q .y, q .z)))
   where

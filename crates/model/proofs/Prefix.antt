@@ -12,7 +12,7 @@ use Rattle.base.proofs.Test.{says-leb, says-true, says-false}
 use Rattle.model.specs.declared.setting.Setting.{Setting}
 use Rattle.model.specs.declared.task.Task.{Task}
 use Rattle.model.specs.Model.{mostTasks, mostRecords}
-use Rattle.model.specs.File.{num, settingAt, taskAt, entries, taskSize, recordSize, tasksPlace, recordsPlace, Read, gate, has, readRecords, readTasks, read}
+use Rattle.model.specs.File.{num, settingAt, taskAt, entries, taskSize, recordSize, tasksPlace, recordsPlace, longestFile, Read, gate, has, readRecords, readTasks, read}
 use Rattle.model.specs.Compute.Verdict.{check, checkOf}
 use Rattle.model.proofs.Limits.{says-within}
 
@@ -29,21 +29,21 @@ entries-same f g s i (suc n) h =
     λ κ. p κ ∷ q κ
 
 -- Two files longer than the longest, with the same bytes to there, are read alike: neither ends where its records do.
-module _ (b c : List ℕ) (b-long : 12949 ≤ length b) (c-long : 12949 ≤ length c) (same : (i : ℕ) → i < 12949 → getD c i 0 ≡ getD b i 0) where
-  num-same : (i : ℕ) → i + 4 ≤ 12949 → num c i ≡ num b i
+module _ (b c : List ℕ) (b-long : longestFile < length b) (c-long : longestFile < length c) (same : (i : ℕ) → i ≤ longestFile → getD c i 0 ≡ getD b i 0) where
+  num-same : (i : ℕ) → i + 4 ≤ longestFile + 1 → num c i ≡ num b i
   num-same i h = rw (same i (omega arith), same (i + 1) (omega arith), same (i + 2) (omega arith), same (i + 3) (omega arith))
 
-  has-same : (k : ℕ) → k ≤ 12949 → has c k ≡ has b k
+  has-same : (k : ℕ) → k ≤ longestFile + 1 → has c k ≡ has b k
   has-same k h = says-true (says-leb k (length c)) (omega arith) ∙ sym (says-true (says-leb k (length b)) (omega arith))
 
   setting-same : settingAt c 4 ≡ settingAt b 4
   setting-same = rw (num-same 4 (omega arith), num-same 8 (omega arith))
 
-  task-same : (i : ℕ) → i + 20 ≤ 12949 → taskAt c i ≡ taskAt b i
+  task-same : (i : ℕ) → i + taskSize ≤ longestFile + 1 → taskAt c i ≡ taskAt b i
   task-same i h =
       rw (num-same i (omega arith), num-same (i + 4) (omega arith), num-same (i + 8) (omega arith), num-same (i + 12) (omega arith), num-same (i + 16) (omega arith))
 
-  ends-later : (k : ℕ) → k ≤ 12948 → leb (length c) k ≡ leb (length b) k
+  ends-later : (k : ℕ) → k ≤ longestFile → leb (length c) k ≡ leb (length b) k
   ends-later k h = says-false (says-leb (length c) k) (omega arith) ∙ sym (says-false (says-leb (length b) k) (omega arith))
 
   records-same : (σ : Setting) (τs : List Task) (i : ℕ) → i ≤ recordsPlace mostTasks → readRecords c σ τs i ≡ readRecords b σ τs i
@@ -78,7 +78,7 @@ module _ (b c : List ℕ) (b-long : 12949 ≤ length b) (c-long : 12949 ≤ leng
       gate-same 3 _ _ _ _ refl (λ _. tasks-same (settingAt b 4))))))
 
 -- a file that is no longer than n is its own beginning
-pub read-prefix : (b : List ℕ) (n : ℕ) → 12949 ≤ n → read (take n b) ≡ read b
+pub read-prefix : (b : List ℕ) (n : ℕ) → longestFile < n → read (take n b) ≡ read b
 read-prefix b n h = go (decLe (length b) n)
   where
     go : Dec (length b ≤ n) → read (take n b) ≡ read b
@@ -87,6 +87,6 @@ read-prefix b n h = go (decLe (length b) n)
         let e = length-take-le n b (omega (arith, l)) in
         read-same b (take n b) (omega (arith, l)) (omega arith) (λ i k. getD-take n b i 0 (omega arith))
 
-pub check-prefix : (b : List ℕ) (n : ℕ) → 12949 ≤ n → check (take n b) ≡ check b
+pub check-prefix : (b : List ℕ) (n : ℕ) → longestFile < n → check (take n b) ≡ check b
 unfolding check
 check-prefix b n h = ap checkOf (read-prefix b n h)

@@ -12,7 +12,7 @@ use Rattle.base.proofs.Test.{says-leb}
 use Rattle.model.specs.declared.setting.Setting.{Setting}
 use Rattle.model.specs.declared.task.Task.{Task}
 use Rattle.model.specs.Model.{Run, WithinLimits, SettingInRange, mostTasks, mostJobs, mostRecords, totalJobs, rec}
-use Rattle.model.specs.File.{Read, refused, whole, num, settingAt, taskAt, recordAt, entries, taskSize, recordSize, tasksPlace, recordsPlace, longestFile, recordPlace, gate, gateTask, tasksIn, runAt, readRecords, readTasks, read}
+use Rattle.model.specs.File.{Read, refused, whole, num, settingAt, taskAt, recordAt, entries, taskSize, recordSize, tasksPlace, recordsPlace, sizeOf, longestFile, recordPlace, gate, gateTask, tasksIn, runAt, readRecords, readTasks, read}
 use Rattle.model.specs.Compute.Limits.{badTask}
 use Rattle.model.proofs.Limits.{says-within, says-setting, tasks-fine}
 
@@ -62,7 +62,7 @@ column-entries b entry part off size same i (suc n) =
 -- what is known of a run that a file tells
 record Tells (b : List ℕ) (ρ : Run) : Type 0 where
   limits : WithinLimits ρ
-  size : length b ≡ 20 + 20 * length (ρ .tasks) + 24 * length (ρ .records)
+  size : length b ≡ sizeOf (length (ρ .tasks)) (length (ρ .records))
   records : (k : ℕ) → k < length (ρ .records) → rec ρ k ≡ recordAt b (recordPlace ρ k)
 
 module _ (b : List ℕ) where
@@ -141,7 +141,7 @@ module _ (b : List ℕ) where
     pub read-limits : read b ≡ whole ρ → WithinLimits ρ
     read-limits e = tells e .limits
 
-    pub read-length : read b ≡ whole ρ → length b ≡ 20 + 20 * length (ρ .tasks) + 24 * length (ρ .records)
+    pub read-length : read b ≡ whole ρ → length b ≡ sizeOf (length (ρ .tasks)) (length (ρ .records))
     read-length e = tells e .size
 
     pub read-records : read b ≡ whole ρ → (k : ℕ) → k < length (ρ .records) → rec ρ k ≡ recordAt b (recordPlace ρ k)

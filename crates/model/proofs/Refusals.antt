@@ -9,7 +9,7 @@ use native.Mathlib.Omega.{arith}
 use lib.ListN.{length}
 use Rattle.base.specs.First.{First}
 use Rattle.base.proofs.Test.{Says, says-leb, says-eqb, decides, stable}
-use Rattle.base.proofs.Finds.{Finds, total-number, first-unique}
+use Rattle.base.proofs.Searches.{Finds, total-number, first-unique}
 use Rattle.model.specs.Model.{Run, TaskInRange, mostTasks, mostJobs, mostRecords, totalJobs, task}
 use Rattle.model.specs.File.{Read, refused, whole, num, settingAt, tasksPlace, recordsPlace, sizeOf, gate, gateTask, runAt, readRecords, readTasks, read}
 use Rattle.model.specs.Answers.{Five, refusal, Verdict}
@@ -115,7 +115,7 @@ judged≢refused ρ ν i = go (verdict ρ) (verdict-iff ρ (verdict ρ) .0 refl)
     go f (Verdict.rule-broken μ L F) e = omega (arith, ap (λ g. g .answer) e)
 
 -- What a file is refused with.
--- -----------------------------
+-- ----------------------------
 module _ (b : List ℕ) where
   -- a refusal other than 5 names no task
   pub names-none : (ν : ℕ) → ¬ (ν ≡ 5) → Names b ν 0

@@ -11,7 +11,7 @@ use Rattle.base.proofs.Test.{says-leb, says-eqb, says-true}
 use Rattle.model.specs.declared.task.Task.{Task}
 use Rattle.model.specs.declared.record.Record.{Record}
 use Rattle.model.specs.Model.{Run, IsRecord, WithinLimits, TaskInRange, mostTasks, mostJobs, mostRecords, totalJobs, task, noTask, noRecord, rec}
-use Rattle.model.specs.File.{num, bytes4, bytesOf, taskNumbers, recordNumbers, FourBytes, RecordFits, joined, bytes, taskAt, recordAt, settingAt, entries, Read, whole, gate, runAt, readRecords, readTasks, read, tasksPlace, recordsPlace, has, taskSize, recordSize}
+use Rattle.model.specs.File.{num, bytes4, bytesOf, taskNumbers, recordNumbers, FourBytes, RecordFits, joined, bytes, taskAt, recordAt, settingAt, entries, Read, whole, gate, runAt, readRecords, readTasks, read, tasksPlace, recordsPlace, has, taskSize, recordSize, sizeOf}
 use Rattle.model.proofs.Limits.{says-within, says-setting, tasks-fine}
 use Rattle.model.proofs.Reading.{gate-whole, gateTask-whole}
 
@@ -148,14 +148,14 @@ module _ (ρ : Run) where
   unfolding bytes numbers
   bytes-are = refl
 
-  long : length b ≡ 20 + 20 * n + 24 * m
+  long : length b ≡ sizeOf n m
   unfolding numbers
   long =
       let t = length-joined taskNumbers 5 (λ τ. refl) (ρ .tasks) in
       let r = length-joined recordNumbers 6 (λ x. refl) (ρ .records) in
       omega (arith, length-bytesOf numbers, length-append (joined taskNumbers (ρ .tasks)) later)
 
-  pub length-bytes : length (bytes ρ) ≡ 20 + 20 * length (ρ .tasks) + 24 * length (ρ .records)
+  pub length-bytes : length (bytes ρ) ≡ sizeOf (length (ρ .tasks)) (length (ρ .records))
   length-bytes = ap length bytes-are ∙ long
 
   drop-tasks : drop (4 + 5 * n) numbers ≡ later
@@ -167,7 +167,7 @@ module _ (ρ : Run) where
   drop-count : drop (4 + 5 * n + 1) numbers ≡ joined recordNumbers (ρ .records) ++ []
   drop-count = sym (drop-drop 1 (4 + 5 * n) numbers) ∙ ap (drop 1) drop-tasks ∙ sym (append-nil (joined recordNumbers (ρ .records)))
 
-  has-to : (k : ℕ) → k ≤ 20 + 20 * n + 24 * m → has b k ≡ true
+  has-to : (k : ℕ) → k ≤ sizeOf n m → has b k ≡ true
   has-to k h = let l = long in says-true (says-leb k (length b)) (omega arith)
 
   opens : (ν : ℕ) (t : Bool) (r : Read) → t ≡ true → r ≡ whole ρ → gate ν t r ≡ whole ρ

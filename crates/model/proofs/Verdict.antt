@@ -10,7 +10,7 @@ use Rattle.base.specs.Find.{first, count}
 use Rattle.base.specs.First.{First, Number}
 use Rattle.base.proofs.Test.{says-ltb, says-and}
 use Rattle.base.proofs.Count.{count-number, number-count}
-use Rattle.base.proofs.Finds.{Finds, total-number, finds-none, finds-some, first-finds, finds-same}
+use Rattle.base.proofs.Searches.{Finds, total-number, finds-none, finds-some, first-finds, finds-same}
 use Rattle.model.specs.Model.{Run, IsRecord, rec, due}
 use Rattle.model.specs.File.{Read, refused, whole, read}
 use Rattle.model.specs.Rules.{Rule, Place, Obeys}

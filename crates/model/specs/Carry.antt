@@ -7,7 +7,7 @@ use lib.Dec.{leb, ltb, eqb}
 use lib.ListN.{length, set}
 use Rattle.base.specs.Find.{first, found}
 use Rattle.model.specs.declared.record.Record.{Record}
-use Rattle.model.specs.Model.{Run, Job, mostHorizon, mostJobs, totalJobs, arrival, jobs, jobOf, task, taskOf, rec, rank, ready}
+use Rattle.model.specs.Model.{Run, Job, mostHorizon, mostJobs, totalJobs, arrival, existing, jobOf, task, taskOf, rec, rank, ready}
 use Rattle.model.specs.File.{Read, refused, whole, read, bytes, Part, emptyPart, recordPart}
 use Rattle.model.specs.Answers.{Five, refusal, carriedTo}
 use Rattle.model.specs.Compute.Places.{size, sameJob, idleCore}
@@ -43,7 +43,7 @@ opening ρ H′ =
     record {
       setting = record { cores = ρ .setting .cores; horizon = H′ };
       tasks = ρ .tasks;
-      records = map (atH ρ) (jobs (ρ .tasks) H′);
+      records = map (atH ρ) (existing ρ H′);
     }
 
 -- Then from instant H on, at each instant, while a core is free and a released job has not begun, the job with the earliest
@@ -73,20 +73,24 @@ module _ (σ : Run) where
   abbrev pub next : ℕ → Option ℕ
   next t = first (λ k. canStart t k && not (outdone t k)) 0 (size σ)
 
-  -- job k starts at t on core c, and runs for its W
-  abbrev pub begun : ℕ → ℕ → ℕ → Record
-  begun t k c =
+  -- job k starts at t on core c and runs for l ticks
+  abbrev pub begun : ℕ → ℕ → ℕ → ℕ → Record
+  begun t k c l =
       record {
         task = rec σ k .task;
         job = rec σ k .job;
         release = rec σ k .release;
         start = t;
-        end = t + taskOf σ k .greatest;
+        end = t + l;
         core = c;
       }
 
+  abbrev pub startsFor : ℕ → ℕ → ℕ → ℕ → Run
+  startsFor t k c l = record { setting = σ .setting; tasks = σ .tasks; records = set (σ .records) k (begun t k c l) }
+
+  -- it runs for its W
   abbrev pub starts : ℕ → ℕ → ℕ → Run
-  starts t k c = record { setting = σ .setting; tasks = σ .tasks; records = set (σ .records) k (begun t k c) }
+  starts t k c = startsFor t k c (taskOf σ k .greatest)
 
   abbrev pub someWaits : Bool
   someWaits = found (first notBegun 0 (size σ))

@@ -137,9 +137,9 @@ module _ (ρ : Run) where
   unfoldable pub ready : ℕ → ℕ
   ready k = rec k .release
 
-  -- the jobs that exist in the run
-  unfoldable pub existing : List Job
-  existing = jobs (ρ .tasks) (ρ .setting .horizon)
+  -- the jobs of the run that exist at a horizon
+  unfoldable pub existing : ℕ → List Job
+  existing H = jobs (ρ .tasks) H
 
 -- A run within all limits.
 pub record WithinLimits (ρ : Run) : Type 0 where

@@ -8,7 +8,7 @@ use mathlib.Core.List.{List, [], _∷_, _++_}
 use lib.ListN.{length}
 use Rattle.base.specs.First.{First}
 use Rattle.model.specs.declared.task.Task.{Task}
-use Rattle.model.specs.Model.{Run, SettingInRange, TaskInRange, mostHorizon, mostTasks, mostJobs, mostRecords, totalJobs, task}
+use Rattle.model.specs.Model.{Run, SettingInRange, TaskInRange, mostHorizon, mostTasks, mostJobs, mostRecords, totalJobs, existing, task}
 use Rattle.model.specs.File.{num, settingAt, tasksPlace, recordsPlace, tasksIn, runAt, sizeOf}
 use Rattle.model.specs.Rules.{Obeys}
 
@@ -77,7 +77,7 @@ askedOfCarry ρ H′ room =
     (9, (ρ .setting .horizon ≤ H′) × (H′ ≤ mostHorizon))
     ∷ (6, totalJobs (ρ .tasks) H′ ≤ mostJobs)
     ∷ (10, Obeys ρ)
-    ∷ (11, sizeOf (length (ρ .tasks)) (totalJobs (ρ .tasks) H′) ≤ room)
+    ∷ (11, sizeOf (length (ρ .tasks)) (length (existing ρ H′)) ≤ room)
     ∷ []
 
 -- What is asked of a file that is to be carried to H' into an output with room for so many bytes.

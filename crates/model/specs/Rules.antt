@@ -13,7 +13,7 @@ module _ (ρ : Run) where
   jobsRecorded = map jobOf (ρ .records)
 
   abbrev pub Jobs : Type 0
-  Jobs = jobsRecorded ≡ existing ρ
+  Jobs = jobsRecorded ≡ existing ρ (ρ .setting .horizon)
 
   -- 2. Release. jP + O ≤ r ≤ jP + O + J.
   abbrev pub Released : ℕ → Type 0
@@ -88,7 +88,7 @@ inOrder = rule1 ∷ rule2 ∷ rule3 ∷ rule4 ∷ rule5 ∷ rule6 ∷ rule7 ∷ 
 
 -- rule ν of the paper, ν from 1
 abbrev pub rule : ℕ → Rule
-rule ν = getD inOrder (ν - 1) rule8
+rule ν = getD inOrder (ν - 1) rule1
 
 abbrev pub Holds : Rule → Run → Type 0
 Holds rule1 ρ = Jobs ρ
@@ -100,7 +100,7 @@ Holds rule6 ρ = NoOverlap ρ
 Holds rule7 ρ = Order ρ
 Holds rule8 ρ = NoIdling ρ
 
--- A run that obeys all eight.
+-- A run that obeys them all.
 abbrev pub Obeys : Run → Type 0
 Obeys ρ = (ν : Rule) → Holds ν ρ
 
@@ -127,7 +127,7 @@ Before p q = (p .x < q .x) ⊎ ((p .x ≡ q .x) × ((p .y < q .y) ⊎ ((p .y ≡
 module _ (ρ : Run) where
   -- 1. Place: a k at which the two lists differ, one of them ending included.
   abbrev pub Differ : ℕ → Type 0
-  Differ k = ¬ (getElem? (jobsRecorded ρ) k ≡ getElem? (existing ρ) k)
+  Differ k = ¬ (getElem? (jobsRecorded ρ) k ≡ getElem? (existing ρ (ρ .setting .horizon)) k)
 
   -- 2 to 5. Place: a record that does not do as the rule says.
   abbrev pub Fails : (ℕ → Type 0) → ℕ → Type 0

@@ -7,3 +7,8 @@ pub struct Record {
     pub end: u32,
     pub core: u32,
 }
+
+impl Record {
+    // how many a file can have
+    pub const MOST: u32 = 512;
+}

@@ -18,6 +18,11 @@ impl Task {
 
     pub const MOST_OFFSET: u32 = 1_000_000;
 
+    // how many a file can have, and how many jobs all of them
+    pub const MOST: u32 = 32;
+
+    pub const MOST_JOBS: u32 = 512;
+
     // Whether each number is within its range.
     pub fn in_range(self) -> bool
         ensures { λ r. ⌜ r ≡ taskInRange self ⌝ }

@@ -4,7 +4,3 @@ use crate::task::Task;
 pub struct Tasks {
     pub list: [Task; 32],
 }
-
-impl Tasks {
-    pub const MOST: u32 = 32;
-}

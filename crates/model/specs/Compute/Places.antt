@@ -34,7 +34,7 @@ module _ (ρ : Run) where
   size = length (ρ .records)
 
   abbrev pub differ : ℕ → Bool
-  differ k = not (sameEntry (getElem? (jobsRecorded ρ) k) (getElem? (existing ρ) k))
+  differ k = not (sameEntry (getElem? (jobsRecorded ρ) k) (getElem? (existing ρ (ρ .setting .horizon)) k))
 
   abbrev pub released : ℕ → Bool
   released k =
@@ -79,7 +79,7 @@ abbrev pub firstBad : Run → (ℕ → Bool) → Option Place
 firstBad ρ good = Option·map one (first (λ k. not (good k)) 0 (size ρ))
 
 unfoldable pub find : Rule → Run → Option Place
-find rule1 ρ = Option·map one (first (differ ρ) 0 (max (length (jobsRecorded ρ)) (length (existing ρ))))
+find rule1 ρ = Option·map one (first (differ ρ) 0 (max (length (jobsRecorded ρ)) (length (existing ρ (ρ .setting .horizon)))))
 find rule2 ρ = firstBad ρ (released ρ)
 find rule3 ρ = firstBad ρ (started ρ)
 find rule4 ρ = firstBad ρ (lasted ρ)

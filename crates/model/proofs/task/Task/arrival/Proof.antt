@@ -1,6 +1,6 @@
 use borrow.Author.Needs.{needs}
 use native.Mathlib.Omega.{arith}
-use Rattle.model.proofs.Fits.{product-fits}
+use Rattle.model.proofs.EightBytes.{product-fits}
 use Rattle.model.proofs.task.Task.arrival.Statement.{statement}
 use Rattle.model.proofs.task.Task.arrival.Tie as tie
 

@@ -1,7 +1,7 @@
 use borrow.Author.Needs.{needs}
 use Prim.Native.Nat.{_+_}
 use native.Mathlib.Omega.{arith}
-use Rattle.model.proofs.Fits.{product-fits}
+use Rattle.model.proofs.EightBytes.{product-fits}
 use Rattle.model.proofs.task.Task.deadline.Statement.{statement}
 use Rattle.model.proofs.task.Task.deadline.Tie as tie
 
