@@ -1,55 +1,21 @@
-// Numbers read once, for the rules to run over: a column for each part of a record.
+// Numbers read once: one number of each record, into a part of a table.
+use crate::entry::RECORD_SIZE;
 use crate::number::word_at;
-ghost use mathlib.Core.Path.{_≡_};
-ghost use mathlib.Core.List.{_++_};
 ghost use Prim.Native.Nat.{_+_, _*_, _≤_};
-ghost use lib.ListN.{length, drop};
-ghost use Rattle.model.specs.File.{num, entries, recordSize};
+ghost use lib.ListN.{length};
+ghost use Rattle.base.specs.Fill.{Fills};
+ghost use Rattle.model.specs.File.{num, recordSize, longestFile};
+ghost use Rattle.model.specs.Model.{mostRecords};
 
-// A column of m entries at the front of a slice: entry k is the number that stands k records after a place. The rest keeps its values.
+// The number that stands at a place, and those that stand n - 1 times one record later, into a slice from another place on.
 // The last number ends within the file; what stands after it in its record, at most 20 bytes, need not.
-fn read_column(file: &[u8], at: usize, m: usize, column: &mut [u32])
-    requires { ⌜ (at ≤ 1000) × (m ≤ 512) × (at + recordSize * m ≤ length (now file) + 20) × (m ≤ length (now column)) ⌝ }
-    ensures { λ _. ⌜ now (column .exit) ≡ entries (num (now (file .entry))) recordSize at m ++ drop m (now (column .entry)) ⌝ }
+pub fn read_column(file: &[u8], at: usize, n: usize, t: &mut [u32], from: usize)
+    requires { ⌜ (at ≤ longestFile) × (n ≤ mostRecords) × (at + recordSize * n ≤ length (now file) + 20) × (from + n ≤ length (now t)) ⌝ }
+    ensures { λ _. ⌜ Fills (now (t .entry)) from n (λ k. num (now (file .entry)) (at + recordSize * k)) (now (t .exit)) ⌝ }
 {
     let mut k = 0;
-    while k < m {
-        column[k] = word_at(file, at + 24 * k);
+    while k < n {
+        t[from + k] = word_at(file, at + RECORD_SIZE * k);
         k += 1;
     }
-}
-
-// The columns of m records that begin at a place, each at the front of a slice; the rest of each slice keeps its values.
-pub fn read_records(
-    file: &[u8],
-    at: usize,
-    m: usize,
-    task: &mut [u32],
-    job: &mut [u32],
-    release: &mut [u32],
-    start: &mut [u32],
-    end: &mut [u32],
-    core: &mut [u32],
-)
-    requires { ⌜ (at ≤ 900) × (m ≤ 512)
-        × (at + recordSize * m ≤ length (now file))
-        × (m ≤ length (now task))
-        × (m ≤ length (now job))
-        × (m ≤ length (now release))
-        × (m ≤ length (now start))
-        × (m ≤ length (now end))
-        × (m ≤ length (now core)) ⌝ }
-    ensures { λ _. ⌜ (now (task .exit) ≡ entries (num (now (file .entry))) recordSize at m ++ drop m (now (task .entry)))
-        × (now (job .exit) ≡ entries (num (now (file .entry))) recordSize (at + 4) m ++ drop m (now (job .entry)))
-        × (now (release .exit) ≡ entries (num (now (file .entry))) recordSize (at + 8) m ++ drop m (now (release .entry)))
-        × (now (start .exit) ≡ entries (num (now (file .entry))) recordSize (at + 12) m ++ drop m (now (start .entry)))
-        × (now (end .exit) ≡ entries (num (now (file .entry))) recordSize (at + 16) m ++ drop m (now (end .entry)))
-        × (now (core .exit) ≡ entries (num (now (file .entry))) recordSize (at + 20) m ++ drop m (now (core .entry))) ⌝ }
-{
-    read_column(file, at, m, task);
-    read_column(file, at + 4, m, job);
-    read_column(file, at + 8, m, release);
-    read_column(file, at + 12, m, start);
-    read_column(file, at + 16, m, end);
-    read_column(file, at + 20, m, core);
 }

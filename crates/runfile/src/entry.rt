@@ -1,11 +1,20 @@
 // The entries of a file's sections, where they stand, and how long a file can be.
 use crate::number::num_at;
+use crate::number::word_at;
 use model::Record;
 use model::Setting;
 use model::Task;
 ghost use mathlib.Core.Path.{_≡_};
-ghost use Prim.Native.Nat.{_+_, _*_};
-ghost use Rattle.model.specs.File.{num, settingAt, taskAt, recordAt, tasksPlace, recordsPlace, longestFile, taskSize, recordSize};
+ghost use Prim.Native.Nat.{_+_, _*_, _≤_};
+ghost use lib.ListN.{length};
+ghost use Rattle.model.specs.File.{num, settingAt, taskAt, recordAt, tasksPlace, recordsPlace, sizeOf, longestFile, taskSize, recordSize};
+
+// How many bytes a task and a record have, and where the tasks' count stands.
+pub const TASK_SIZE: usize = 20;
+
+pub const RECORD_SIZE: usize = 24;
+
+pub const TASKS_PLACE: usize = 12;
 
 pub fn setting_of(file: &[u8]) -> Setting
     ensures { λ r. ⌜ r ≡ settingAt (now (file .entry)) 4 ⌝ }
@@ -16,17 +25,11 @@ pub fn setting_of(file: &[u8]) -> Setting
     }
 }
 
-pub fn task_count(file: &[u8]) -> u32
-    ensures { λ r. ⌜ r ≡ num (now (file .entry)) tasksPlace ⌝ }
-{
-    num_at(file, 12)
-}
-
 // Task i.
 pub fn task_at(file: &[u8], i: u32) -> Task
     ensures { λ r. ⌜ r ≡ taskAt (now (file .entry)) (tasksPlace + 4 + taskSize * i) ⌝ }
 {
-    let at = 16 + 20 * i as usize;
+    let at = TASKS_PLACE + 4 + TASK_SIZE * i as usize;
     Task {
         period: num_at(file, at),
         least: num_at(file, at + 4),
@@ -36,31 +39,40 @@ pub fn task_at(file: &[u8], i: u32) -> Task
     }
 }
 
+// Task i of a file that has its bytes: no byte is asked whether it stands before the end.
+pub fn task_in(file: &[u8], i: usize) -> Task
+    requires { ⌜ tasksPlace + 4 + taskSize * i + taskSize ≤ length (now file) ⌝ }
+    ensures { λ r. ⌜ r ≡ taskAt (now (file .entry)) (tasksPlace + 4 + taskSize * i) ⌝ }
+{
+    let at = TASKS_PLACE + 4 + TASK_SIZE * i;
+    Task {
+        period: word_at(file, at),
+        least: word_at(file, at + 4),
+        greatest: word_at(file, at + 8),
+        offset: word_at(file, at + 12),
+        jitter: word_at(file, at + 16),
+    }
+}
+
 // Where the records' count stands after n tasks.
 pub fn records_place(n: u32) -> usize
     ensures { λ r. ⌜ r ≡ recordsPlace n ⌝ }
 {
-    16 + 20 * n as usize
+    TASKS_PLACE + 4 + TASK_SIZE * n as usize
 }
 
-// What stands there.
-pub fn count_after(file: &[u8], n: u32) -> u32
-    ensures { λ r. ⌜ r ≡ num (now (file .entry)) (recordsPlace n) ⌝ }
+// How many bytes a file of n tasks and m records has.
+pub fn size_of(n: u32, m: u32) -> usize
+    ensures { λ r. ⌜ r ≡ sizeOf n m ⌝ }
 {
-    num_at(file, records_place(n))
-}
-
-pub fn record_count(file: &[u8]) -> u32
-    ensures { λ r. ⌜ r ≡ num (now (file .entry)) (recordsPlace (num (now (file .entry)) tasksPlace)) ⌝ }
-{
-    count_after(file, task_count(file))
+    records_place(n) + 4 + RECORD_SIZE * m as usize
 }
 
 // Record k of those that begin at a place.
 pub fn record_at(file: &[u8], at: u32, k: u32) -> Record
     ensures { λ r. ⌜ r ≡ recordAt (now (file .entry)) (at + recordSize * k) ⌝ }
 {
-    let from = at as usize + 24 * k as usize;
+    let from = at as usize + RECORD_SIZE * k as usize;
     Record {
         task: num_at(file, from),
         job: num_at(file, from + 4),

@@ -1,3 +1,3 @@
 pub mod Least
-pub mod From
+pub mod ShownFrom
 pub mod Once

@@ -5,7 +5,7 @@ use mathlib.Core.List.{List}
 use denote.Ref.{RefT, ptr, now}
 use Rattle.base.proofs.Once.{Once, _also_}
 use Rattle.model.specs.Carry.{Source, inRecorded, inCarried, shown}
-use Rattle.held.proofs.Once.{part-once}
+use Rattle.reader.proofs.Once.{part-once}
 use Rattle.shown.specs.Shown.{IsShown}
 use Rattle.shown.proofs.shown.Reads as shows
 

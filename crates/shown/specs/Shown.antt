@@ -4,7 +4,7 @@ use mathlib.Core.List.{List}
 use denote.Ref.{RefT}
 use Rattle.model.specs.Carry.{Source, inRecorded, inCarried}
 use Rattle.model.specs.File.{recordPart, emptyPart}
-use Rattle.held.specs.Held.{IsPart}
+use Rattle.reader.specs.LentFile.{IsPart}
 use Rattle.shown.specs.declared.Place.{Place}
 use Rattle.shown.specs.declared.Place.the-variants.{Recorded, Carried, Nowhere}
 

@@ -1,10 +1,7 @@
-use Rattle.shown.proofs.Least.{began-said}
 use borrow.Author.Needs.{needs}
+use Rattle.shown.proofs.Least.{began-said}
 use Rattle.shown.proofs.began_before.Statement.{statement}
 use Rattle.shown.proofs.began_before.Tie as tie
-
-starts-of-requires : tie.Need-starts-of-requires
-starts-of-requires c κs = search needs
 
 setting-of-requires : tie.Need-setting-of-requires
 setting-of-requires c κs = search needs
@@ -13,8 +10,7 @@ record-at-requires : tie.Need-record-at-requires
 record-at-requires c κs = search needs
 
 returns : tie.Need-returns
-returns c = began-said _ (c .before .before .before .before .starts-of .ensures) (c .before .before .before .setting-of .ensures) (c .before .before .record-at .ensures) (c .before .before .before .before .before .before .pre)
+returns c = began-said _ (c .before .before .before .before .before .pre .0) (c .before .before .before .setting-of .ensures) (c .before .before .record-at .ensures) (c .before .before .before .before .before .pre .1)
 
 pub began-before-spec : {M : Type 1} → statement M
-began-before-spec =
-    tie.close (tie.spec starts-of-requires setting-of-requires record-at-requires returns)
+began-before-spec = tie.close (tie.spec setting-of-requires record-at-requires returns)

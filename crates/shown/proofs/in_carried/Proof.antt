@@ -1,10 +1,10 @@
-use Rattle.shown.proofs.From.{carried-at}
 use borrow.Author.Needs.{needs}
+use Rattle.shown.proofs.ShownFrom.{carried-at}
 use Rattle.shown.proofs.in_carried.Statement.{statement}
 use Rattle.shown.proofs.in_carried.Tie as tie
 
-least-record-requires : tie.Need-least-record-requires
-least-record-requires c κs = search needs
+least-in-requires : tie.Need-least-in-requires
+least-in-requires c κs = search needs
 
 enum-known-k : tie.Need-enum-known-k
 enum-known-k c = search needs
@@ -13,11 +13,10 @@ enum-told : tie.Need-enum-told
 enum-told c = search needs
 
 returns : tie.Need-returns
-returns c = λ b. carried-at _ (c .before .k .given .1) (c .before .before .before .least-record .ensures)
+returns c = λ b. carried-at _ (c .before .k .given .1) (c .before .before .before .least-in .ensures)
 
 returns-2 : tie.Need-returns-2
-returns-2 c = λ b. carried-at _ (c .enum-told .given .1) (c .before .before .least-record .ensures)
+returns-2 c = λ b. carried-at _ (c .enum-told .given .1) (c .before .before .least-in .ensures)
 
 pub in-carried-spec : {M : Type 1} → statement M
-in-carried-spec =
-    tie.close (tie.spec least-record-requires enum-known-k enum-told returns returns-2)
+in-carried-spec = tie.close (tie.spec least-in-requires enum-known-k enum-told returns returns-2)

@@ -1,26 +1,26 @@
-use Rattle.shown.proofs.From.{from-recorded, from-later, from-none}
-use Rattle.shown.proofs.Least.{least-below}
 use borrow.Author.Needs.{needs}
+use Rattle.shown.proofs.ShownFrom.{from-recorded, from-later, from-none}
+use Rattle.shown.proofs.Least.{least-below}
 use Rattle.shown.proofs.place_of.Statement.{statement}
 use Rattle.shown.proofs.place_of.Tie as tie
 
-least-record-requires : tie.Need-least-record-requires
-least-record-requires c κs = search needs
+least-in-requires : tie.Need-least-in-requires
+least-in-requires c κs = search needs
 
 enum-known-found : tie.Need-enum-known-found
 enum-known-found c = search needs
 
 began-before-requires : tie.Need-began-before-requires
-began-before-requires c κs = least-below _ _ _ (c .before .before .before .least-record .ensures) (c .before .found .given .1)
+began-before-requires c κs = (c .before .before .before .before .before .before .pre .0, least-below _ (c .before .before .before .before .before .before .pre .0) _ (c .before .before .before .least-in .ensures) (c .before .found .given .1))
 
 returns : tie.Need-returns
-returns c = from-recorded _ _ _ (c .before .before .before .before .before .least-record .ensures) (c .before .before .before .found .given .1) (c .before .began-before .ensures) (c .if1 .taken)
+returns c = from-recorded _ _ _ (c .before .before .before .before .before .least-in .ensures) (c .before .before .before .found .given .1) (c .before .began-before .ensures) (c .if1 .taken)
 
 in-carried-requires : tie.Need-in-carried-requires
 in-carried-requires c κs = search needs
 
 returns-2 : tie.Need-returns-2
-returns-2 c = from-later _ _ _ (c .before .before .before .before .before .before .least-record .ensures) (c .before .before .before .before .found .given .1) (c .before .before .began-before .ensures) (c .before .if1 .left) (c .in-carried .ensures _)
+returns-2 c = from-later _ _ _ (c .before .before .before .before .before .before .least-in .ensures) (c .before .before .before .before .found .given .1) (c .before .before .began-before .ensures) (c .before .if1 .left) (c .in-carried .ensures _)
 
 enum-told : tie.Need-enum-told
 enum-told c = search needs
@@ -29,13 +29,13 @@ in-carried-requires-2 : tie.Need-in-carried-requires-2
 in-carried-requires-2 c κs = search needs
 
 returns-3 : tie.Need-returns-3
-returns-3 c = from-none _ _ _ (c .before .before .before .least-record .ensures) (c .before .enum-told .given .1) (c .in-carried2 .ensures _)
+returns-3 c = from-none _ _ _ (c .before .before .before .least-in .ensures) (c .before .enum-told .given .1) (c .in-carried2 .ensures _)
 
 pub place-of-spec : {M : Type 1} → statement M
 place-of-spec =
     tie.close
     (tie.spec
-    least-record-requires
+    least-in-requires
     enum-known-found
     began-before-requires
     returns

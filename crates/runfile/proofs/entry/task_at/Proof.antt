@@ -2,39 +2,6 @@ use borrow.Author.Needs.{needs}
 use Rattle.runfile.proofs.entry.task_at.Statement.{statement}
 use Rattle.runfile.proofs.entry.task_at.Tie as tie
 
-mul-at : tie.Need-mul-at
-mul-at c = search needs
-
-add-at : tie.Need-add-at
-add-at c = search needs
-
-num-at-requires : tie.Need-num-at-requires
-num-at-requires c κs = search needs
-
-add-num-at : tie.Need-add-num-at
-add-num-at c = search needs
-
-num-at-requires-2 : tie.Need-num-at-requires-2
-num-at-requires-2 c κs = search needs
-
-add-num-at-2 : tie.Need-add-num-at-2
-add-num-at-2 c = search needs
-
-num-at-requires-3 : tie.Need-num-at-requires-3
-num-at-requires-3 c κs = search needs
-
-add-num-at-3 : tie.Need-add-num-at-3
-add-num-at-3 c = search needs
-
-num-at-requires-4 : tie.Need-num-at-requires-4
-num-at-requires-4 c κs = search needs
-
-add-num-at-4 : tie.Need-add-num-at-4
-add-num-at-4 c = search needs
-
-num-at-requires-5 : tie.Need-num-at-requires-5
-num-at-requires-5 c κs = search needs
-
 returns : tie.Need-returns
 returns c = simp (c .before .before .before .before .num-at .ensures, c .before .before .before .num-at2 .ensures, c .before .before .num-at3 .ensures, c .before .num-at4 .ensures, c .num-at5 .ensures)
 
@@ -42,15 +9,16 @@ pub task-at-spec : {M : Type 1} → statement M
 task-at-spec =
     tie.close
     (tie.spec
-    mul-at
-    add-at
-    num-at-requires
-    add-num-at
-    num-at-requires-2
-    add-num-at-2
-    num-at-requires-3
-    add-num-at-3
-    num-at-requires-4
-    add-num-at-4
-    num-at-requires-5
+    (λ c. search needs)
+    (λ c. search needs)
+    (λ c. search needs)
+    (λ c κs. search needs)
+    (λ c. search needs)
+    (λ c κs. search needs)
+    (λ c. search needs)
+    (λ c κs. search needs)
+    (λ c. search needs)
+    (λ c κs. search needs)
+    (λ c. search needs)
+    (λ c κs. search needs)
     returns)

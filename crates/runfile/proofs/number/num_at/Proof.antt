@@ -1,63 +1,36 @@
 use borrow.Author.Needs.{needs}
-use denote.Ref.{now}
+use Prim.Native.Nat.{ℕ, _+_, _≤_}
+use mathlib.Core.Path.{_≡_}
+use mathlib.Core.List.{List}
 use native.Mathlib.Omega.{arith}
-use Rattle.runfile.proofs.Entries.{num-past}
+use denote.Ref.{now}
+use lib.ListN.{length, getD, List·getD-eq-default}
+use Rattle.model.specs.File.{num}
 use Rattle.runfile.proofs.number.num_at.Statement.{statement}
 use Rattle.runfile.proofs.number.num_at.Tie as tie
 
+past : (b : List ℕ) (i : ℕ) → length b ≤ i → 0 ≡ num b i
+past b i h =
+    let z : (k : ℕ) → i ≤ k → getD b k 0 ≡ 0 = λ k l. List·getD-eq-default b 0 (omega arith) in
+    omega (arith, z i (omega arith), z (i + 1) (omega arith), z (i + 2) (omega arith), z (i + 3) (omega arith))
+
 returns : tie.Need-returns
-returns c = let a = c .before .before .args in num-past (now (a .s)) (a .at) (omega arith)
-
-sub-if2 : tie.Need-sub-if2
-sub-if2 c = search needs
-
-word-at-requires : tie.Need-word-at-requires
-word-at-requires c κs = search needs
-
-returns-2 : tie.Need-returns-2
-returns-2 c = search needs
-
-byte-at-requires : tie.Need-byte-at-requires
-byte-at-requires c κs = search needs
-
-add-byte-at : tie.Need-add-byte-at
-add-byte-at c = search needs
-
-byte-at-requires-2 : tie.Need-byte-at-requires-2
-byte-at-requires-2 c κs = search needs
-
-add-byte-at-2 : tie.Need-add-byte-at-2
-add-byte-at-2 c = search needs
-
-byte-at-requires-3 : tie.Need-byte-at-requires-3
-byte-at-requires-3 c κs = search needs
-
-add-byte-at-3 : tie.Need-add-byte-at-3
-add-byte-at-3 c = search needs
-
-byte-at-requires-4 : tie.Need-byte-at-requires-4
-byte-at-requires-4 c κs = search needs
-
-low-first-requires : tie.Need-low-first-requires
-low-first-requires c κs = search needs
-
-returns-3 : tie.Need-returns-3
-returns-3 c = search needs
+returns c = let a = c .before .before .args in past (now (a .s)) (a .at) (omega arith)
 
 pub num-at-spec : {M : Type 1} → statement M
 num-at-spec =
     tie.close
     (tie.spec
     returns
-    sub-if2
-    word-at-requires
-    returns-2
-    byte-at-requires
-    add-byte-at
-    byte-at-requires-2
-    add-byte-at-2
-    byte-at-requires-3
-    add-byte-at-3
-    byte-at-requires-4
-    low-first-requires
-    returns-3)
+    (λ c. search needs)
+    (λ c κs. search needs)
+    (λ c. search needs)
+    (λ c κs. search needs)
+    (λ c. search needs)
+    (λ c κs. search needs)
+    (λ c. search needs)
+    (λ c κs. search needs)
+    (λ c. search needs)
+    (λ c κs. search needs)
+    (λ c κs. search needs)
+    (λ c. search needs))

@@ -1,4 +1,0 @@
-pub mod Whole
-pub mod Parts
-pub mod Walk
-pub mod Once

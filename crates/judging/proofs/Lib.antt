@@ -1,3 +1,0 @@
-pub mod Gates
-pub mod Numbered
-pub mod Once

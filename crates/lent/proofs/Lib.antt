@@ -1,4 +1,0 @@
-pub mod Plan
-pub mod Lists
-pub mod Tests
-pub mod Once

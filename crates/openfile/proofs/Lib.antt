@@ -1,0 +1,4 @@
+pub mod WholeOrRefused
+pub mod Tallied
+pub mod WaysOut
+pub mod Once

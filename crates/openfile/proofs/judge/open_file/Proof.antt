@@ -1,0 +1,46 @@
+use borrow.Author.Needs.{needs}
+use native.Mathlib.Omega.{arith}
+use Rattle.openfile.proofs.WaysOut.{setting-uncounted, setting-miscounted, setting-cut, setting-out, setting-fine}
+use Rattle.openfile.proofs.judge.open_file.Statement.{statement}
+use Rattle.openfile.proofs.judge.open_file.Tie as tie
+
+returns : tie.Need-returns
+returns c = setting-uncounted _ (omega arith)
+
+num-at-requires : tie.Need-num-at-requires
+num-at-requires c κs = search needs
+
+returns-2 : tie.Need-returns-2
+returns-2 c = setting-miscounted _ (omega arith) (λ h. omega arith)
+
+returns-3 : tie.Need-returns-3
+returns-3 c = setting-cut _ (omega arith)
+
+setting-of-requires : tie.Need-setting-of-requires
+setting-of-requires c κs = search needs
+
+in-range-requires : tie.Need-in-range-requires
+in-range-requires c κs = search needs
+
+returns-4 : tie.Need-returns-4
+returns-4 c = setting-out _ (omega arith) (c .before .before .setting-of .ensures) (cc)
+
+judge-tasks-requires : tie.Need-judge-tasks-requires
+judge-tasks-requires c κs = search needs
+
+returns-5 : tie.Need-returns-5
+returns-5 c = setting-fine _ (omega arith) (c .before .before .before .setting-of .ensures) (cc) (c .judge-tasks .ensures)
+
+pub open-file-spec : {M : Type 1} → statement M
+open-file-spec =
+    tie.close
+    (tie.spec
+    returns
+    num-at-requires
+    returns-2
+    returns-3
+    setting-of-requires
+    in-range-requires
+    returns-4
+    judge-tasks-requires
+    returns-5)

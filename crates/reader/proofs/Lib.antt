@@ -1,0 +1,4 @@
+pub mod SectionStarts
+pub mod Parts
+pub mod Walk
+pub mod Once

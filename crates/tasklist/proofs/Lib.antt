@@ -1,0 +1,4 @@
+pub mod Plan
+pub mod StoredInTurn
+pub mod PassedOrNot
+pub mod Once

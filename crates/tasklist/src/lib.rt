@@ -1,0 +1,95 @@
+// Decoded tasks in a list that the caller lends, one entry a task.
+use model::Task;
+use model::Tasks;
+use openfile::Opened;
+use openfile::open_file;
+use runfile::task_in;
+ghost use mathlib.Core.Path.{_≡_};
+ghost use mathlib.Core.List.{List};
+ghost use Prim.Native.Nat.{_+_, _-_, _*_, _≤_};
+ghost use lib.ListN.{length, replicate};
+ghost use Rattle.model.specs.declared.task.Task.{Task as TaskValue};
+ghost use Rattle.model.specs.Model.{mostTasks};
+ghost use Rattle.model.specs.File.{tasksPlace, taskSize, decoded};
+ghost use Rattle.tasklist.specs.Stored.{Rooms, Filled, Plans, Stores};
+
+// What a decoding answers: the refusal's number and task, or number 0; and how many tasks it stored.
+pub struct Stored {
+    pub number: u32,
+    pub task: u32,
+    pub count: usize,
+}
+
+// What is answered of a file that is whole and has n tasks.
+fn room_for(n: usize, room: usize) -> Stored
+    ensures { λ r. ⌜ Rooms n room r ⌝ }
+{
+    if room < n {
+        return Stored {
+            number: 11,
+            task: 0,
+            count: 0,
+        };
+    }
+    Stored {
+        number: 0,
+        task: 0,
+        count: n,
+    }
+}
+
+// What is answered, and how many tasks are to be stored in a list with room for so many: none where the file is refused or the list
+// is too short.
+pub fn planned(file: &[u8], room: usize) -> Stored
+    ensures { λ r. ⌜ ((list : List TaskValue) → length list ≡ room → Plans (now (file .entry)) list r) ⌝ }
+{
+    match open_file(file) {
+        Opened::Refused(number, task) => Stored {
+            number: number,
+            task: task,
+            count: 0,
+        },
+        Opened::Whole(head) => room_for(head.tasks as usize, room),
+    }
+}
+
+// The first n tasks of the file into the list; the entries past them keep their values.
+pub fn fill_tasks(file: &[u8], list: &mut [Task], n: usize)
+    requires { ⌜ (n ≤ mostTasks) × (n ≤ length (now list)) × (taskSize * n ≤ length (now file) - (tasksPlace + 4)) ⌝ }
+    ensures { λ _. ⌜ Filled (now (file .entry)) n (now (list .entry)) (now (list .exit)) ⌝ }
+{
+    let mut i = 0;
+    while i < n {
+        list[i] = task_in(file, i);
+        i += 1;
+    }
+}
+
+// The tasks of a file into the list: the file's own refusals first, then 11 for a list with fewer entries than the file has tasks.
+// A refusal changes no entry, and entries past the last task keep their values.
+pub fn decode_tasks(file: &[u8], list: &mut [Task]) -> Stored
+    ensures { λ r. ⌜ Stores (now (file .entry)) (now (list .entry)) (now (list .exit)) r ⌝ }
+{
+    let d = planned(file, list.len());
+    fill_tasks(file, list, d.count);
+    d
+}
+
+// The tasks of a file in a list that is given by value and lent to the decoding.
+fn list_of(file: &[u8], list: [Task; 32]) -> [Task; 32]
+    ensures { λ r. ⌜ r ≡ decoded (now (file .entry)) list .list ⌝ }
+{
+    let mut own = list;
+    let d = decode_tasks(file, &mut own);
+    own
+}
+
+// The tasks of a file as a value, decoded into a list of 32 that is filled with one task: that task after the file's, and nothing else
+// if the file is refused.
+pub fn tasks_over(file: &[u8], fill: Task) -> Tasks
+    ensures { λ r. ⌜ r .list ≡ decoded (now (file .entry)) (replicate 32 fill) .list ⌝ }
+{
+    let filled = [fill; 32];
+    let list = list_of(file, filled);
+    Tasks { list: list }
+}
