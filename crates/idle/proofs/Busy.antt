@@ -7,7 +7,7 @@ use native.Mathlib.Omega.{arith}
 use lib.ListN.{length, getD}
 use Rattle.base.specs.Find.{found}
 use Rattle.base.proofs.Test.{Says, says-leb, says-ltb, says-eqb, says-and, says-true}
-use Rattle.base.proofs.Finds.{Finds, first-finds, found-says}
+use Rattle.base.proofs.Searches.{Finds, first-finds, found-says}
 use Rattle.idle.specs.FirstFrom.{FirstFrom, Among}
 use Rattle.idle.specs.Idle.{Runs, holdsIn, busyIn, idleCoreIn, BusyFrom}
 use Rattle.idle.proofs.FirstFrom.{first-same}

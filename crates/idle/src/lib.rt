@@ -16,19 +16,31 @@ ghost use lib.ListN.{length};
 ghost use Rattle.base.specs.Find.{seenThree, firstOf};
 ghost use Rattle.idle.specs.Idle.{idleIn};
 
-// Rule 8. No idling.
-pub fn idle_place(cores: u32, ready: &[u32], start: &[u32], end: &[u32], core: &[u32]) -> FoundThree
+// How many records a small room is for, and a large one.
+const FEW: usize = 32;
+
+const MOST: usize = 512;
+
+// Rule 8, with room for one instant a record.
+fn idle_over(
+    cores: u32,
+    ready: &[u32],
+    start: &[u32],
+    end: &[u32],
+    core: &[u32],
+    until: &mut [u32],
+) -> FoundThree
     requires { ⌜ (cores ≤ 16)
         × (length (now ready) ≡ length (now start))
         × (length (now end) ≡ length (now start))
         × (length (now core) ≡ length (now start))
-        × (length (now start) ≤ 512) ⌝ }
+        × (length (now start) ≤ 512)
+        × (length (now start) ≤ length (now until)) ⌝ }
     ensures { λ r. ⌜ seenThree r
         ≡ firstOf (idleIn (now (start .entry)) (now (end .entry)) (now (core .entry)) cores (now (ready .entry))) 0 (length (now (start .entry))) ⌝ }
 {
     let n = start.len();
-    let mut until = [0u32; 512];
-    idle_until(cores, start, end, core, &mut until);
+    idle_until(cores, start, end, core, until);
     let begun = all_begun(cores, start, end, core);
     let mut a = 0;
     while a < n {
@@ -40,11 +52,29 @@ pub fn idle_place(cores: u32, ready: &[u32], start: &[u32], end: &[u32], core: &
             start,
             end,
             core,
-            &until,
+            until,
         ) {
             return FoundThree::At(a as u32, t, c);
         }
         a += 1;
     }
     FoundThree::Nothing
+}
+
+// Rule 8. No idling.
+pub fn idle_place(cores: u32, ready: &[u32], start: &[u32], end: &[u32], core: &[u32]) -> FoundThree
+    requires { ⌜ (cores ≤ 16)
+        × (length (now ready) ≡ length (now start))
+        × (length (now end) ≡ length (now start))
+        × (length (now core) ≡ length (now start))
+        × (length (now start) ≤ 512) ⌝ }
+    ensures { λ r. ⌜ seenThree r
+        ≡ firstOf (idleIn (now (start .entry)) (now (end .entry)) (now (core .entry)) cores (now (ready .entry))) 0 (length (now (start .entry))) ⌝ }
+{
+    if start.len() <= FEW {
+        let mut few = [0u32; FEW];
+        return idle_over(cores, ready, start, end, core, &mut few);
+    }
+    let mut until = [0u32; MOST];
+    idle_over(cores, ready, start, end, core, &mut until)
 }

@@ -1,16 +1,19 @@
--- What rules 2 and 4 ask of a record by its task and two of its numbers.
-use Prim.Native.Nat.{ℕ}
-use mathlib.Core.Bool.{Bool}
+-- What rules 2 to 5 ask of one record by its numbers and by what its task gives it.
+use Prim.Native.Nat.{ℕ, _-_}
+use mathlib.Core.Bool.{Bool, _&&_}
 use mathlib.Core.List.{List}
+use lib.Dec.{leb}
 use lib.ListN.{getD}
-use Rattle.model.specs.declared.task.Task.{Task}
-use Rattle.rules.specs.Columns.{taskIn, releasedBy, lastedBy}
-use Rattle.rules.specs.declared.records.Asks.{Asks}
-use Rattle.rules.specs.declared.records.Asks.the-variants.{Released, Lasted}
+use Rattle.rules.specs.declared.Asks.{Asks}
+use Rattle.rules.specs.declared.Asks.the-variants.{Released, Started, Lasted, OnCore}
 
-abbrev pub obeyedBy : Asks → Task → ℕ → ℕ → Bool
-obeyedBy Released τ j r = releasedBy τ j r
-obeyedBy Lasted τ s e = lastedBy τ s e
+-- Rule 2: earliest, release, latest. Rule 3: release, start. Rule 4: start, end, least and greatest time. Rule 5: core.
+unfoldable pub obeyedBy : Asks → ℕ → ℕ → ℕ → ℕ → Bool
+obeyedBy Released a r l x = leb a r && leb r l
+obeyedBy Started r s x y = leb r s
+obeyedBy Lasted s e b w = leb s e && (leb b (e - s) && leb (e - s) w)
+obeyedBy (OnCore N) c x y z = leb 1 c && leb c N
 
-abbrev pub obeyedIn : Asks → List Task → List ℕ → List ℕ → List ℕ → ℕ → Bool
-obeyedIn asks τs is xs ys k = obeyedBy asks (taskIn τs is k) (getD xs k 0) (getD ys k 0)
+-- the same of the numbers that stand at one place of four columns
+abbrev pub obeyedIn : Asks → List ℕ → List ℕ → List ℕ → List ℕ → ℕ → Bool
+obeyedIn asks ws xs ys zs k = obeyedBy asks (getD ws k 0) (getD xs k 0) (getD ys k 0) (getD zs k 0)

@@ -1,6 +1,5 @@
-pub mod From
+pub mod RulesFrom
 pub mod Lateness
-pub mod Same
 pub mod Tied
+pub mod Told
 pub mod Once
-pub mod OfLent

@@ -1,3 +1,2 @@
-pub mod Lent
-pub mod From
+pub mod RulesFrom
 pub mod Late

@@ -1,77 +1,82 @@
-// The late records of an accepted run.
+// The late records of an accepted run, by one pass.
 use base::Found;
 use model::Answer;
 ghost use mathlib.Core.Path.{_≡_};
-ghost use Prim.Native.Nat.{_≤_};
-ghost use lib.ListN.{length};
-ghost use Rattle.base.specs.Find.{seen, first, count};
-ghost use Rattle.verdict.specs.Late.{lateBy, lateIn, earlyIn, timelyIn};
+ghost use mathlib.Core.List.{List};
+ghost use Prim.Native.Nat.{ℕ, _+_, _≤_, _<_};
+ghost use lib.ListN.{length, getD};
 ghost use Rattle.model.specs.Answers.{fiveOf};
+ghost use Rattle.model.specs.Model.{mostRecords};
+ghost use Rattle.verdict.specs.Late.{LateOf, orThis, timelyIn};
 
-// Late means that a record ends after its deadline.
-fn is_late(due: u64, end: u32) -> bool
-    ensures { λ r. ⌜ r ≡ lateBy due end ⌝ }
-{
-    due < end as u64
+// How many are late, the first of them, and the first of them that begins before the horizon.
+pub struct Late {
+    pub count: u32,
+    pub first: Found,
+    pub early: Found,
 }
 
-fn late_count(due: &[u64], end: &[u32]) -> u32
-    requires { ⌜ (length (now due) ≡ length (now end)) × (length (now end) ≤ 512) ⌝ }
-    ensures { λ r. ⌜ r ≡ count (lateIn (now (due .entry)) (now (end .entry))) (length (now (end .entry))) ⌝ }
+// What was found before, or this.
+fn or_this(found: Found, k: u32) -> Found
+    ensures { λ r. ⌜ r ≡ orThis found k ⌝ }
 {
-    let mut late = 0;
+    match found {
+        Found::At(j) => found,
+        Found::Nothing => Found::At(k),
+    }
+}
+
+// The late ones of the first k records, and now of one more: late means that it ends after its deadline.
+fn late_with(late: Late, horizon: u32, k: u32, due: u32, start: u32, end: u32) -> Late
+    requires { ⌜ (late .count ≤ k) × (k < mostRecords) ⌝ }
+    ensures { λ r. ⌜ ((ds ss es : List ℕ) → getD ds k 0 ≡ due → getD ss k 0 ≡ start → getD es k 0 ≡ end
+        → LateOf horizon ds ss es k late → LateOf horizon ds ss es (k + 1) r) ⌝ }
+{
+    if end <= due {
+        return late;
+    }
+    let first = late.first;
+    let mut early = late.early;
+    if start < horizon {
+        early = or_this(early, k);
+    }
+    Late {
+        count: late.count + 1,
+        first: or_this(first, k),
+        early: early,
+    }
+}
+
+fn late_records(horizon: u32, due: &[u32], start: &[u32], end: &[u32]) -> Late
+    requires { ⌜ (length (now due) ≡ length (now end)) × (length (now start) ≡ length (now end)) × (length (now end) ≤ mostRecords) ⌝ }
+    ensures { λ r. ⌜ LateOf horizon (now (due .entry)) (now (start .entry)) (now (end .entry)) (length (now (end .entry))) r ⌝ }
+{
+    let mut late = Late {
+        count: 0,
+        first: Found::Nothing,
+        early: Found::Nothing,
+    };
     let mut k = 0;
     while k < end.len() {
-        if is_late(due[k], end[k]) {
-            late += 1;
-        }
+        late = late_with(late, horizon, k as u32, due[k], start[k], end[k]);
         k += 1;
     }
     late
 }
 
-fn first_late(due: &[u64], end: &[u32]) -> Found
-    requires { ⌜ (length (now due) ≡ length (now end)) × (length (now end) ≤ 512) ⌝ }
-    ensures { λ r. ⌜ seen r ≡ first (lateIn (now (due .entry)) (now (end .entry))) 0 (length (now (end .entry))) ⌝ }
-{
-    let mut k = 0;
-    while k < end.len() {
-        if is_late(due[k], end[k]) {
-            return Found::At(k as u32);
-        }
-        k += 1;
-    }
-    Found::Nothing
-}
-
-// The first late record that begins before the horizon.
-fn first_early(horizon: u32, due: &[u64], start: &[u32], end: &[u32]) -> Found
-    requires { ⌜ (length (now due) ≡ length (now end)) × (length (now start) ≡ length (now end)) × (length (now end) ≤ 512) ⌝ }
-    ensures { λ r. ⌜ seen r ≡ first (earlyIn horizon (now (due .entry)) (now (start .entry)) (now (end .entry))) 0 (length (now (end .entry))) ⌝ }
-{
-    let mut k = 0;
-    while k < end.len() {
-        if start[k] < horizon {
-            if is_late(due[k], end[k]) {
-                return Found::At(k as u32);
-            }
-        }
-        k += 1;
-    }
-    Found::Nothing
-}
-
 // Answer 0, 1 or 2.
-pub(crate) fn timely(horizon: u32, due: &[u64], start: &[u32], end: &[u32]) -> Answer
-    requires { ⌜ (length (now due) ≡ length (now end)) × (length (now start) ≡ length (now end)) × (length (now end) ≤ 512) ⌝ }
+pub(crate) fn timely(horizon: u32, due: &[u32], start: &[u32], end: &[u32]) -> Answer
+    requires { ⌜ (length (now due) ≡ length (now end)) × (length (now start) ≡ length (now end)) × (length (now end) ≤ mostRecords) ⌝ }
     ensures { λ r. ⌜ fiveOf r ≡ timelyIn horizon (now (due .entry)) (now (start .entry)) (now (end .entry)) ⌝ }
 {
-    let late = late_count(due, end);
-    if let Found::At(k) = first_early(horizon, due, start, end) {
-        return Answer::LateBeforeH(late, k);
+    let late = late_records(horizon, due, start, end);
+    let early = late.early;
+    let first = late.first;
+    if let Found::At(k) = early {
+        return Answer::LateBeforeH(late.count, k);
     }
-    if let Found::At(k) = first_late(due, end) {
-        return Answer::LateFromH(late, k);
+    if let Found::At(k) = first {
+        return Answer::LateFromH(late.count, k);
     }
     Answer::InTime
 }

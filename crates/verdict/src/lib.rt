@@ -1,4 +1,5 @@
-// What is said of a run that is lent as columns: the rules in order, the late records.
+// What is said of the run of a file: the rules in order, and then its late records.
+mod asked;
 mod late;
 mod run;
 

@@ -1,153 +1,115 @@
-// The rules in order over the columns of a run, and then its late records.
+// The rules in order, and then the late records.
+use crate::asked::idling;
+use crate::asked::lasted;
+use crate::asked::on_core;
+use crate::asked::out_of_order;
+use crate::asked::overlapping;
+use crate::asked::released;
+use crate::asked::started;
 use crate::late::timely;
 use base::Found;
 use base::FoundThree;
 use base::FoundTwo;
-use idle::idle_place;
+use loadrun::jobs_place;
+use loadrun::read_table;
 use model::Answer;
 use model::Setting;
-use model::Task;
-use model::Tasks;
-use pairs::order_place;
-use pairs::overlap_place;
-use rules::core_place;
-use rules::due_column;
-use rules::existing_jobs;
-use rules::jobs_place;
-use rules::length_place;
-use rules::release_place;
-use rules::start_place;
+use openfile::Head;
+use table::COLUMNS;
+use table::DUE;
+use table::END;
+use table::FEW;
+use table::MOST;
+use table::START;
+use table::column;
+use times::Stage;
+use times::fill_times;
 ghost use mathlib.Core.Path.{_≡_};
-ghost use mathlib.Core.List.{List};
-ghost use mathlib.Core.Option.{Option·map};
-ghost use Prim.Native.Nat.{ℕ, _≤_};
-ghost use lib.ListN.{length, take};
-ghost use Rattle.base.specs.Find.{seen};
-ghost use Rattle.verdict.specs.From.{verdictFrom};
-ghost use Rattle.verdict.specs.Lent.{Lent};
+ghost use Prim.Native.Nat.{_*_};
+ghost use lib.ListN.{length};
 ghost use Rattle.model.specs.Answers.{fiveOf};
-ghost use Rattle.model.specs.Compute.Places.{find, one};
 ghost use Rattle.model.specs.Compute.Verdict.{verdict};
-ghost use Rattle.model.specs.Model.{Run, totalJobs};
-ghost use Rattle.model.specs.Rules.{rule1};
-ghost use Rattle.rules.specs.Columns.{duesFrom};
+ghost use Rattle.model.specs.Model.{Run};
+ghost use Rattle.openfile.specs.Head.{Tells};
+ghost use Rattle.table.specs.Table.{Lent, columns};
+ghost use Rattle.model.specs.Rules.{Jobs};
+ghost use Rattle.times.specs.Times.{upTo};
+ghost use Rattle.verdict.specs.RulesFrom.{verdictFrom};
 
-// Rule 1: the recorded jobs against those that exist.
-fn recorded_jobs(setting: Setting, tasks: Tasks, n: u32, task: &[u32], job: &[u32]) -> Found
-    requires { ⌜ (n ≤ 32)
-        × (totalJobs (take n (tasks .list)) (setting .horizon) ≤ 512)
-        × (length (now job) ≡ length (now task))
-        × (length (now task) ≤ 512) ⌝ }
-    ensures { λ r. ⌜ ((ρ : Run) (rs ss es cs : List ℕ)
-        → Lent ρ setting (tasks .list) n (now (task .entry)) (now (job .entry)) rs ss es cs
-        → Option·map one (seen r) ≡ find rule1 ρ) ⌝ }
+// From rule 7 on, and then the late records.
+fn judge_order(setting: Setting, t: &[u32], n: usize) -> Answer
+    requires { ⌜ ((ρ : Run) × Lent columns ρ (now t) n × (setting ≡ ρ .setting)) ⌝ }
+    ensures { λ r. ⌜ ((ρ : Run) → Lent columns ρ (now (t .entry)) n → setting ≡ ρ .setting → fiveOf r ≡ verdictFrom 7 ρ) ⌝ }
 {
-    let mut wanted = [0u32; 512];
-    let mut number = [0u32; 512];
-    let m = existing_jobs(tasks, n, setting.horizon, &mut wanted, &mut number);
-    jobs_place(task, job, &wanted[..m as usize], &number[..m as usize])
-}
-
-// Rules 7 and 8, once 1 to 6 hold, and then the late records, over the deadlines.
-fn judge_times(
-    setting: Setting,
-    due: &[u64],
-    release: &[u32],
-    start: &[u32],
-    end: &[u32],
-    core: &[u32],
-) -> Answer
-    requires { ⌜ (setting .cores ≤ 16)
-        × (length (now due) ≡ length (now start))
-        × (length (now release) ≡ length (now start))
-        × (length (now end) ≡ length (now start))
-        × (length (now core) ≡ length (now start))
-        × (length (now start) ≤ 512) ⌝ }
-    ensures { λ r. ⌜ ((ρ : Run) (τs : List Task) (n : ℕ) (is js : List ℕ)
-        → Lent ρ setting τs n is js (now (release .entry)) (now (start .entry)) (now (end .entry)) (now (core .entry))
-        → now (due .entry) ≡ duesFrom τs is js 0 (length is)
-        → fiveOf r ≡ verdictFrom 7 ρ) ⌝ }
-{
-    if let FoundTwo::At(a, b) = order_place(due, release, start) {
+    if let FoundTwo::At(a, b) = out_of_order(t, n) {
         return Answer::RuleBroken(7, a, b, 0);
     }
-    if let FoundThree::At(a, t, c) = idle_place(setting.cores, release, start, end, core) {
-        return Answer::RuleBroken(8, a, t, c);
+    if let FoundThree::At(a, at, c) = idling(t, n, setting.cores) {
+        return Answer::RuleBroken(8, a, at, c);
     }
-    timely(setting.horizon, due, start, end)
+    timely(
+        setting.horizon,
+        column(t, n, DUE),
+        column(t, n, START),
+        column(t, n, END),
+    )
 }
 
-// The deadlines, and with them the rest once 1 to 6 hold.
-fn judge_dues(
-    setting: Setting,
-    tasks: Tasks,
-    task: &[u32],
-    job: &[u32],
-    release: &[u32],
-    start: &[u32],
-    end: &[u32],
-    core: &[u32],
-) -> Answer
-    requires { ⌜ (setting .cores ≤ 16)
-        × (length (now job) ≡ length (now task))
-        × (length (now release) ≡ length (now task))
-        × (length (now start) ≡ length (now task))
-        × (length (now end) ≡ length (now task))
-        × (length (now core) ≡ length (now task))
-        × (length (now task) ≤ 512) ⌝ }
-    ensures { λ r. ⌜ ((ρ : Run) (n : ℕ)
-        → Lent ρ setting (tasks .list) n (now (task .entry)) (now (job .entry)) (now (release .entry)) (now (start .entry)) (now (end .entry)) (now (core .entry))
-        → fiveOf r ≡ verdictFrom 7 ρ) ⌝ }
+// From rule 4 on: how long a record may last is filled in first, and what its order goes by once 4 to 6 hold.
+fn judge_lengths(file: &[u8], head: Head, t: &mut [u32]) -> Answer
+    requires { ⌜ ((ρ : Run) × Tells (now file) head ρ × Jobs ρ × Lent (upTo Stage.Release) ρ (now t) (head .records)) ⌝ }
+    ensures { λ r. ⌜ ((ρ : Run) → Tells (now (file .entry)) head ρ → Jobs ρ → Lent (upTo Stage.Release) ρ (now (t .entry)) (head .records)
+        → fiveOf r ≡ verdictFrom 4 ρ) ⌝ }
 {
-    let mut space = [0u64; 512];
-    let due = &mut space[..task.len()];
-    due_column(tasks, task, job, due);
-    judge_times(setting, due, release, start, end, core)
-}
-
-// All rules in order: the lowest broken one, or what is late.
-pub fn judge_run(
-    setting: Setting,
-    tasks: Tasks,
-    n: u32,
-    task: &[u32],
-    job: &[u32],
-    release: &[u32],
-    start: &[u32],
-    end: &[u32],
-    core: &[u32],
-) -> Answer
-    requires { ⌜ (setting .cores ≤ 16) × (n ≤ 32) × (totalJobs (take n (tasks .list)) (setting .horizon) ≤ 512)
-        × (length (now job) ≡ length (now task))
-        × (length (now release) ≡ length (now task))
-        × (length (now start) ≡ length (now task))
-        × (length (now end) ≡ length (now task))
-        × (length (now core) ≡ length (now task))
-        × (length (now task) ≤ 512)
-        × ((ρ : Run) × Lent ρ setting (tasks .list) n (now task) (now job) (now release) (now start) (now end) (now core)) ⌝ }
-    ensures { λ r. ⌜ ((ρ : Run)
-        → Lent ρ setting (tasks .list) n (now (task .entry)) (now (job .entry)) (now (release .entry)) (now (start .entry)) (now (end .entry)) (now (core .entry))
-        → fiveOf r ≡ verdict ρ) ⌝ }
-{
-    if let Found::At(k) = recorded_jobs(setting, tasks, n, task, job) {
-        return Answer::RuleBroken(1, k, 0, 0);
-    }
-    if let Found::At(k) = release_place(tasks, task, job, release) {
-        return Answer::RuleBroken(2, k, 0, 0);
-    }
-    if let Found::At(k) = start_place(release, start) {
-        return Answer::RuleBroken(3, k, 0, 0);
-    }
-    let wrong_length = length_place(tasks, task, start, end);
-    let no_core = core_place(setting.cores, core);
+    let n = head.records as usize;
+    let tasks = head.tasks as usize;
+    let setting = head.setting;
+    fill_times(Stage::Length, file, tasks, t, n);
+    let wrong_length = lasted(t, n);
+    let no_core = on_core(t, n, setting.cores);
     if let Found::At(k) = wrong_length {
         return Answer::RuleBroken(4, k, 0, 0);
     }
     if let Found::At(k) = no_core {
         return Answer::RuleBroken(5, k, 0, 0);
     }
-    if let FoundTwo::At(a, b) = overlap_place(start, end, core) {
+    if let FoundTwo::At(a, b) = overlapping(t, n) {
         return Answer::RuleBroken(6, a, b, 0);
     }
-    judge_dues(setting, tasks, task, job, release, start, end, core)
+    fill_times(Stage::Order, file, tasks, t, n);
+    judge_order(setting, t, n)
+}
+
+// All rules, with a table for the records of the file.
+fn judge_table(file: &[u8], head: Head, t: &mut [u32]) -> Answer
+    requires { ⌜ (length (now t) ≡ columns * head .records) × ((ρ : Run) × Tells (now file) head ρ) ⌝ }
+    ensures { λ r. ⌜ ((ρ : Run) → Tells (now (file .entry)) head ρ → fiveOf r ≡ verdict ρ) ⌝ }
+{
+    let n = head.records as usize;
+    read_table(file, head, t);
+    if let Found::At(k) = jobs_place(file, head, t) {
+        return Answer::RuleBroken(1, k, 0, 0);
+    }
+    fill_times(Stage::Release, file, head.tasks as usize, t, n);
+    if let Found::At(k) = released(t, n) {
+        return Answer::RuleBroken(2, k, 0, 0);
+    }
+    if let Found::At(k) = started(t, n) {
+        return Answer::RuleBroken(3, k, 0, 0);
+    }
+    judge_lengths(file, head, t)
+}
+
+// All rules in order: the lowest broken one, or what is late. A small file has a small table.
+pub fn judge_run(file: &[u8], head: Head) -> Answer
+    requires { ⌜ ((ρ : Run) × Tells (now file) head ρ) ⌝ }
+    ensures { λ r. ⌜ ((ρ : Run) → Tells (now (file .entry)) head ρ → fiveOf r ≡ verdict ρ) ⌝ }
+{
+    let n = head.records as usize;
+    if n <= FEW {
+        let mut few = [0u32; COLUMNS * FEW];
+        return judge_table(file, head, &mut few[..COLUMNS * n]);
+    }
+    let mut table = [0u32; COLUMNS * MOST];
+    judge_table(file, head, &mut table[..COLUMNS * n])
 }

@@ -18,36 +18,6 @@ abbrev μ-loop : tie.MeasureT-loop
 loop-holds : tie.Need-loop-holds Inv-loop μ-loop
 loop-holds c = (search needs, among-none _ (omega arith))
 
-mul-runs-from : tie.Need-mul-runs-from Inv-loop μ-loop
-mul-runs-from c = search needs
-
-shared-slice-read-runs-from : tie.Need-shared-slice-read-runs-from Inv-loop μ-loop
-shared-slice-read-runs-from c = search needs
-
-mul-runs-from-2 : tie.Need-mul-runs-from-2 Inv-loop μ-loop
-mul-runs-from-2 c = search needs
-
-shared-slice-read-runs-from-2 : tie.Need-shared-slice-read-runs-from-2 Inv-loop μ-loop
-shared-slice-read-runs-from-2 c = search needs
-
-mul-runs-from-3 : tie.Need-mul-runs-from-3 Inv-loop μ-loop
-mul-runs-from-3 c = search needs
-
-shared-slice-read-runs-from-3 : tie.Need-shared-slice-read-runs-from-3 Inv-loop μ-loop
-shared-slice-read-runs-from-3 c = search needs
-
-runs-from-requires : tie.Need-runs-from-requires Inv-loop μ-loop
-runs-from-requires c κs = search needs
-
-sooner-requires : tie.Need-sooner-requires Inv-loop μ-loop
-sooner-requires c κs = search needs
-
-add-k : tie.Need-add-k Inv-loop μ-loop
-add-k c = search needs
-
-loop-less : tie.Need-loop-less Inv-loop μ-loop
-loop-less c = search needs
-
 loop-again : tie.Need-loop-again Inv-loop μ-loop
 loop-again c =
     let F = c .before .before .before .before .before .before .loop .inv .1 in
@@ -63,15 +33,15 @@ busy-from-spec =
     Inv-loop
     μ-loop
     loop-holds
-    mul-runs-from
-    shared-slice-read-runs-from
-    mul-runs-from-2
-    shared-slice-read-runs-from-2
-    mul-runs-from-3
-    shared-slice-read-runs-from-3
-    runs-from-requires
-    sooner-requires
-    add-k
-    loop-less
+    (λ c. search needs)
+    (λ c. search needs)
+    (λ c. search needs)
+    (λ c. search needs)
+    (λ c. search needs)
+    (λ c. search needs)
+    (λ c κs. search needs)
+    (λ c κs. search needs)
+    (λ c. search needs)
+    (λ c. search needs)
     loop-again
     returns)

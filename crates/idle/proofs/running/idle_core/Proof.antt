@@ -17,18 +17,9 @@ abbrev μ-loop : tie.MeasureT-loop
 loop-holds : tie.Need-loop-holds Inv-loop μ-loop
 loop-holds c = search (needs, none-yet)
 
-busy-requires : tie.Need-busy-requires Inv-loop μ-loop
-busy-requires c κs = search needs
-
 returns : tie.Need-returns Inv-loop μ-loop
 unfolding idleCoreIn
 returns c = first-hit _ _ _ (omega arith) (omega arith) (c .before .before .before .loop .inv .2) (cc)
-
-add-c : tie.Need-add-c Inv-loop μ-loop
-add-c c = search needs
-
-loop-less : tie.Need-loop-less Inv-loop μ-loop
-loop-less c = search needs
 
 loop-again : tie.Need-loop-again Inv-loop μ-loop
 loop-again c = (search needs, search needs, none-on _ (search needs) (cc))
@@ -44,9 +35,9 @@ idle-core-spec =
     Inv-loop
     μ-loop
     loop-holds
-    busy-requires
+    (λ c κs. search needs)
     returns
-    add-c
-    loop-less
+    (λ c. search needs)
+    (λ c. search needs)
     loop-again
     returns-2)

@@ -5,9 +5,6 @@ use Rattle.idle.proofs.FirstFrom.{first-same, first-never}
 use Rattle.idle.proofs.running.runs_from.Statement.{statement}
 use Rattle.idle.proofs.running.runs_from.Tie as tie
 
-first-within-requires : tie.Need-first-within-requires
-first-within-requires c κs = search needs
-
 returns : tie.Need-returns
 returns c = first-never (omega arith) (λ x h w. omega arith)
 
@@ -15,4 +12,4 @@ returns-2 : tie.Need-returns-2
 returns-2 c = first-same (λ x h. (omega arith, h)) (λ x h. h .1) (c .before .first-within .ensures)
 
 pub runs-from-spec : {M : Type 1} → statement M
-runs-from-spec = tie.close (tie.spec first-within-requires returns returns-2)
+runs-from-spec = tie.close (tie.spec (λ c κs. search needs) returns returns-2)

@@ -11,11 +11,8 @@ returns c = no-core _ _ _ (λ h. omega arith)
 returns-2 : tie.Need-returns-2
 returns-2 c = no-core _ _ _ (λ h. omega arith)
 
-busy-from-requires : tie.Need-busy-from-requires
-busy-from-requires c κs = search needs
-
 returns-3 : tie.Need-returns-3
 returns-3 c = a-core _ _ _ (omega arith) (omega arith) (c .busy-from .ensures)
 
 pub idle-after-spec : {M : Type 1} → statement M
-idle-after-spec = tie.close (tie.spec returns returns-2 busy-from-requires returns-3)
+idle-after-spec = tie.close (tie.spec returns returns-2 (λ c κs. search needs) returns-3)

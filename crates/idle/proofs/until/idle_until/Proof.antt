@@ -18,40 +18,10 @@ abbrev μ-loop : tie.MeasureT-loop
 loop-holds : tie.Need-loop-holds Inv-loop μ-loop
 loop-holds c = search (needs, untils-yet)
 
-mul-idle-after : tie.Need-mul-idle-after Inv-loop μ-loop
-mul-idle-after c = search needs
-
-shared-slice-read-idle-after : tie.Need-shared-slice-read-idle-after Inv-loop μ-loop
-shared-slice-read-idle-after c = search needs
-
-mul-idle-after-2 : tie.Need-mul-idle-after-2 Inv-loop μ-loop
-mul-idle-after-2 c = search needs
-
-shared-slice-read-idle-after-2 : tie.Need-shared-slice-read-idle-after-2 Inv-loop μ-loop
-shared-slice-read-idle-after-2 c = search needs
-
-idle-after-requires : tie.Need-idle-after-requires Inv-loop μ-loop
-idle-after-requires c κs = search needs
-
-mul-until : tie.Need-mul-until Inv-loop μ-loop
-mul-until c = search needs
-
-slice-write-until : tie.Need-slice-write-until Inv-loop μ-loop
-slice-write-until c = search needs
-
-add-k : tie.Need-add-k Inv-loop μ-loop
-add-k c = search needs
-
-loop-less : tie.Need-loop-less Inv-loop μ-loop
-loop-less c = search needs
-
 loop-again : tie.Need-loop-again Inv-loop μ-loop
 loop-again c =
     let I = c .before .before .before .before .loop .inv in
     (simp length-set (I .0), search needs, untils-on _ _ _ (I .2) (omega arith) (c .idle-after .ensures))
-
-same-length : tie.Need-same-length Inv-loop μ-loop
-same-length c = search needs
 
 returns : tie.Need-returns Inv-loop μ-loop
 returns c =
@@ -65,15 +35,15 @@ idle-until-spec =
     Inv-loop
     μ-loop
     loop-holds
-    mul-idle-after
-    shared-slice-read-idle-after
-    mul-idle-after-2
-    shared-slice-read-idle-after-2
-    idle-after-requires
-    mul-until
-    slice-write-until
-    add-k
-    loop-less
+    (λ c. search needs)
+    (λ c. search needs)
+    (λ c. search needs)
+    (λ c. search needs)
+    (λ c κs. search needs)
+    (λ c. search needs)
+    (λ c. search needs)
+    (λ c. search needs)
+    (λ c. search needs)
     loop-again
-    same-length
+    (λ c. search needs)
     returns)

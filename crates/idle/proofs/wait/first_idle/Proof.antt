@@ -26,25 +26,13 @@ least c =
 returns : tie.Need-returns
 returns c = firstOf-miss _ _ _ (omega arith) (nothing-yet _)
 
-least-idle-requires : tie.Need-least-idle-requires
-least-idle-requires c κs = search needs
-
 returns-2 : tie.Need-returns-2
 returns-2 c = firstOf-miss _ _ _ (omega arith) (none-idles _ _ _ _ (least (c .before)))
-
-idle-core-requires : tie.Need-idle-core-requires
-idle-core-requires c κs = search needs
-
-enum-known-c : tie.Need-enum-known-c
-enum-known-c c = search needs
 
 returns-3 : tie.Need-returns-3
 returns-3 c =
     let L = least (c .before .before .before .before .before) in
     firstOf-hit _ _ _ (L .from) (omega arith) (none-idles _ _ _ _ L) (sym (c .before .before .before .idle-core .ensures) ∙ ap seen (c .before .c .given .1))
-
-enum-told : tie.Need-enum-told
-enum-told c = search needs
 
 returns-4 : tie.Need-returns-4
 returns-4 c =
@@ -56,10 +44,10 @@ first-idle-spec =
     tie.close
     (tie.spec
     returns
-    least-idle-requires
+    (λ c κs. search needs)
     returns-2
-    idle-core-requires
-    enum-known-c
+    (λ c κs. search needs)
+    (λ c. search needs)
     returns-3
-    enum-told
+    (λ c. search needs)
     returns-4)

@@ -19,30 +19,6 @@ abbrev μ-loop : tie.MeasureT-loop
 loop-holds : tie.Need-loop-holds Inv-loop μ-loop
 loop-holds c = (search needs, among-none _ (omega arith))
 
-mul-first-within : tie.Need-mul-first-within Inv-loop μ-loop
-mul-first-within c = search needs
-
-shared-slice-read-first-within : tie.Need-shared-slice-read-first-within Inv-loop μ-loop
-shared-slice-read-first-within c = search needs
-
-mul-first-within-2 : tie.Need-mul-first-within-2 Inv-loop μ-loop
-mul-first-within-2 c = search needs
-
-shared-slice-read-first-within-2 : tie.Need-shared-slice-read-first-within-2 Inv-loop μ-loop
-shared-slice-read-first-within-2 c = search needs
-
-first-within-requires : tie.Need-first-within-requires Inv-loop μ-loop
-first-within-requires c κs = search needs
-
-sooner-requires : tie.Need-sooner-requires Inv-loop μ-loop
-sooner-requires c κs = search needs
-
-add-k : tie.Need-add-k Inv-loop μ-loop
-add-k c = search needs
-
-loop-less : tie.Need-loop-less Inv-loop μ-loop
-loop-less c = search needs
-
 loop-again : tie.Need-loop-again Inv-loop μ-loop
 loop-again c =
     let F = c .before .before .before .before .before .loop .inv .1 in
@@ -60,13 +36,13 @@ least-idle-spec =
     Inv-loop
     μ-loop
     loop-holds
-    mul-first-within
-    shared-slice-read-first-within
-    mul-first-within-2
-    shared-slice-read-first-within-2
-    first-within-requires
-    sooner-requires
-    add-k
-    loop-less
+    (λ c. search needs)
+    (λ c. search needs)
+    (λ c. search needs)
+    (λ c. search needs)
+    (λ c κs. search needs)
+    (λ c κs. search needs)
+    (λ c. search needs)
+    (λ c. search needs)
     loop-again
     returns)

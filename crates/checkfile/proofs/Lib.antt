@@ -1,0 +1,2 @@
+pub mod ByHead
+pub mod Once

@@ -1,0 +1,3 @@
+pub mod RecordNumbers
+pub mod SameJobs
+pub mod Once

@@ -1,0 +1,4 @@
+pub mod ColumnsApart
+pub mod LentLaws
+pub mod OneRow
+pub mod Once

@@ -1,0 +1,4 @@
+pub mod TimesOfRecord
+pub mod RowAfterRow
+pub mod StageValue
+pub mod Once

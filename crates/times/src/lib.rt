@@ -1,0 +1,86 @@
+// The times of each record, from the tasks of the file: they stand in a list that is lent, and the rules then run over columns alone.
+use model::Task;
+use table::DUE;
+use table::EARLIEST;
+use table::JOB;
+use table::LEAST;
+use table::RELEASE;
+use table::put_row;
+use tasklist::fill_tasks;
+ghost use mathlib.Core.Path.{_≡_};
+ghost use Prim.Native.Nat.{_+_, _*_, _-_, _≤_, _<_};
+ghost use lib.ListN.{length};
+ghost use Rattle.model.specs.File.{tasksIn, tasksPlace, taskSize};
+ghost use Rattle.model.specs.Model.{Run, taskOf, mostTasks};
+ghost use Rattle.model.specs.Rules.{Jobs};
+ghost use Rattle.table.specs.Table.{Rows, Loads};
+ghost use Rattle.times.specs.Times.{begins, upTo, KeptFrom, Listed, Leads};
+
+// The task of zeros.
+const NO_TASK: Task = Task {
+    period: 0,
+    least: 0,
+    greatest: 0,
+    offset: 0,
+    jitter: 0,
+};
+
+// What is filled in at once: until when a record may be released, how long it may last, what its order goes by.
+pub enum Stage {
+    Release,
+    Length,
+    Order,
+}
+
+// The times of record k, whose task this is, that a stage fills in.
+fn put_times(stage: Stage, task: Task, t: &mut [u32], n: usize, k: usize)
+    requires { ⌜ (k < n) × ((σ : Run) × Jobs σ × Rows (begins stage) (upTo stage) k σ (now t) n × (taskOf σ k ≡ task)) ⌝ }
+    ensures { λ _. ⌜ ((σ : Run) → Jobs σ → Rows (begins stage) (upTo stage) k σ (now (t .entry)) n → taskOf σ k ≡ task
+        → Rows (begins stage) (upTo stage) (k + 1) σ (now (t .exit)) n × KeptFrom (upTo stage * n) (now (t .entry)) (now (t .exit))) ⌝ }
+{
+    let job = t[JOB * n + k];
+    let release = t[RELEASE * n + k];
+    match stage {
+        Stage::Release => {
+            let earliest = task.arrival(job) as u32;
+            let latest = earliest + task.jitter;
+            put_row(t, n, k, EARLIEST, [earliest, latest, 0, 0, 0, 0, 0], 2);
+        }
+        Stage::Length => put_row(
+            t,
+            n,
+            k,
+            LEAST,
+            [task.least, task.greatest, 0, 0, 0, 0, 0],
+            2,
+        ),
+        Stage::Order => {
+            let due = task.deadline(job) as u32;
+            put_row(t, n, k, DUE, [due, due, release, 0, 0, 0, 0], 3);
+        }
+    }
+}
+
+// The times of all records that a stage fills in, from a lent list of tasks.
+fn times_from(stage: Stage, tasks: &[Task], t: &mut [u32], n: usize)
+    requires { ⌜ ((σ : Run) × Leads σ (now tasks) (begins stage) (now t) n) ⌝ }
+    ensures { λ _. ⌜ ((σ : Run) → Leads σ (now (tasks .entry)) (begins stage) (now (t .entry)) n → Loads (upTo stage) σ n (now (t .entry)) (now (t .exit))) ⌝ }
+{
+    let mut k = 0;
+    while k < n {
+        put_times(stage, tasks[t[k] as usize], t, n, k);
+        k += 1;
+    }
+}
+
+// The times of all records that a stage fills in, from the tasks of a file.
+pub fn fill_times(stage: Stage, file: &[u8], tasks: usize, t: &mut [u32], n: usize)
+    requires { ⌜ (tasks ≤ mostTasks) × (taskSize * tasks ≤ length (now file) - (tasksPlace + 4))
+        × ((σ : Run) × Listed σ (tasksIn (now file) tasks) (begins stage) (now t) n) ⌝ }
+    ensures { λ _. ⌜ ((σ : Run) → Listed σ (tasksIn (now (file .entry)) tasks) (begins stage) (now (t .entry)) n
+        → Loads (upTo stage) σ n (now (t .entry)) (now (t .exit))) ⌝ }
+{
+    let mut list = [NO_TASK; 32];
+    fill_tasks(file, &mut list, tasks);
+    times_from(stage, &list, t, n);
+}
