@@ -8,7 +8,7 @@ use native.Mathlib.Omega.{arith}
 use native.Mathlib.Decide.{decLe}
 use lib.ListN.{getD}
 use Rattle.base.proofs.Find.{some≢none}
-use Rattle.carrying.proofs.Waiting.{below-suc}
+use Rattle.carrytheory.proofs.Waiting.{below-suc}
 use Rattle.starts.specs.Choice.{NoLater, Chosen, Choice}
 
 -- what holds below n and at n holds below n + 1, as a loop counts

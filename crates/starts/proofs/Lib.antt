@@ -1,7 +1,7 @@
 pub mod Choosing
 pub mod Taking
-pub mod Standing
-pub mod Opened
-pub mod Turn
-pub mod Turns
+pub mod State
+pub mod LastEnds
+pub mod OneTurn
+pub mod AllTurns
 pub mod Once

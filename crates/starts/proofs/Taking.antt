@@ -27,15 +27,6 @@ zeros zero c = refl
 zeros (suc n) zero = refl
 zeros (suc n) (suc c) = zeros n c
 
--- entry c is written, and the other cores' last ends stand
-written : (n m : ℕ) (cs es cs′ es′ : List ℕ) {xs : List ℕ} → Lasts n cs es xs → (c e : ℕ) → c ≤ 16 → (1 ≤ c → LastOf m cs′ es′ c e)
-    → ((d : ℕ) → 1 ≤ d → ¬ (d ≡ c) → LastOf n cs es d (getD xs d 0) → LastOf m cs′ es′ d (getD xs d 0)) → Lasts m cs′ es′ (set xs c e)
-written n m cs es cs′ es′ {xs} L c e small here other =
-    record {
-      count = length-set xs c e ∙ L .count;
-      each = λ d h b. at-set (λ d y. 1 ≤ d → LastOf m cs′ es′ d y) xs c e (omega (arith, L .count)) here d (λ f g. other d g f (L .each d g b)) h;
-    }
-
 module _ {cs es : List ℕ} where
   pub no-ends : {xs : List ℕ} → length xs ≡ 17 → ((c : ℕ) → getD xs c 0 ≡ 0) → Lasts 0 cs es xs
   no-ends l z = record { count = l; each = λ c h b. record { none-later = λ k w. absurd (omega arith); reached = inl (z c) } }
@@ -43,7 +34,13 @@ module _ {cs es : List ℕ} where
   -- job n ends on core c
   pub one-end : {n : ℕ} {xs : List ℕ} → Lasts n cs es xs → {c : ℕ} → getD cs n 0 ≡ c → c ≤ 16
       → Lasts (n + 1) cs es (set xs c (max (getD xs c 0) (getD es n 0)))
-  one-end {n} {xs} L {c} is small = written n (n + 1) cs es cs es L c _ small here other
+  one-end {n} {xs} L {c} is small =
+      let e = max (getD xs c 0) (getD es n 0) in
+      record {
+        count = length-set xs c e ∙ L .count;
+        each = λ d h b.
+            at-set (λ d y. 1 ≤ d → LastOf (n + 1) cs es d y) xs c e (omega (arith, L .count)) here d (λ f g. other d g f (L .each d g b)) h;
+      }
     where
       more : (d e : ℕ) → EndsAt n cs es d e → EndsAt (n + 1) cs es d e
       more d e (inl z) = inl z
@@ -70,43 +67,6 @@ module _ {cs es : List ℕ} where
           go (yes y) r = inr (n, omega arith, is, omega arith)
           go (no y) (inl z) = inl (omega (arith, y))
           go (no y) (inr (k, l, p, q)) = inr (k, l, p, omega (arith, y))
-
-  -- job k, which had not begun, starts on core c and ends there at e
-  pub end-added : {n : ℕ} → length cs ≡ n → length es ≡ n → {xs : List ℕ} → Lasts n cs es xs → (k c e : ℕ) → k < n → getD cs k 0 ≡ 0 → 1 ≤ c → c ≤ 16
-      → getD xs c 0 ≤ e → Lasts n (set cs k c) (set es k e) (set xs c e)
-  end-added {n} cores ends {xs} L k c e range waits low small after = written n n cs es (set cs k c) (set es k e) L c e small here other
-    where
-      core-here : getD (set cs k c) k 0 ≡ c
-      core-here = getD-set-same cs k c 0 (omega arith)
-
-      end-here : getD (set es k e) k 0 ≡ e
-      end-here = getD-set-same es k e 0 (omega arith)
-
-      -- on core d
-      none-later : (d y : ℕ) → LastOf n cs es d (getD xs d 0) → (d ≡ c → e ≤ y) → getD xs d 0 ≤ y
-          → (j : ℕ) → j < n → getD (set cs k c) j 0 ≡ d → getD (set es k e) j 0 ≤ y
-      none-later d y E p q j l = go (ℕ-discrete j k)
-        where
-          go : Dec (j ≡ k) → getD (set cs k c) j 0 ≡ d → getD (set es k e) j 0 ≤ y
-          go (yes z) = rw (z, core-here, end-here) (λ w. p (sym w))
-          go (no z) = rw (getD-set-other cs k j c 0 z, getD-set-other es k j e 0 z) (λ w. omega (arith, E .none-later j l w))
-
-      here : 1 ≤ c → LastOf n (set cs k c) (set es k e) c e
-      here h =
-          record {
-            none-later = none-later c e (L .each c h (omega arith)) (λ z. omega arith) after;
-            reached = inr (k, range, core-here, end-here);
-          }
-
-      other : (d : ℕ) → 1 ≤ d → ¬ (d ≡ c) → LastOf n cs es d (getD xs d 0) → LastOf n (set cs k c) (set es k e) d (getD xs d 0)
-      other d h f E =
-          record { none-later = none-later d (getD xs d 0) E (λ z. absurd (f z)) (omega arith); reached = go (E .reached) }
-        where
-          go : EndsAt n cs es d (getD xs d 0) → EndsAt n (set cs k c) (set es k e) d (getD xs d 0)
-          go (inl z) = inl z
-          go (inr (j, l, p, q)) =
-              let z : ¬ (j ≡ k) = λ y. let w : getD cs j 0 ≡ 0 = rw y waits in omega arith in
-              inr (j, l, getD-set-other cs k j c 0 z ∙ p, getD-set-other es k j e 0 z ∙ q)
 
 -- The least of them
 -- -----------------

@@ -1,3 +1,3 @@
-pub mod Columns
+pub mod Opened
 pub mod Choice
 pub mod Cores

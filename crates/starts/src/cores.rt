@@ -5,6 +5,7 @@ ghost use mathlib.Core.Path.{_≡_};
 ghost use mathlib.Core.List.{List};
 ghost use Prim.Native.Nat.{ℕ, _+_, _≤_, _<_};
 ghost use lib.ListN.{length, getD};
+ghost use Rattle.model.specs.Model.{mostCores};
 ghost use Rattle.starts.specs.Cores.{Lasts, LeastOf, Taking, Takes};
 
 // The last end on each of the cores 1 to 16, the core that was taken, and the least of the last ends then.
@@ -16,7 +17,7 @@ pub struct Taken {
 
 // For each core the latest end of a job on it, or 0.
 fn last_ends(end: &[u32], core: &[u32]) -> Taken
-    requires { ⌜ (length (now end) ≡ length (now core)) × ((k : ℕ) → getD (now core) k 0 ≤ 16) ⌝ }
+    requires { ⌜ (length (now end) ≡ length (now core)) × ((k : ℕ) → getD (now core) k 0 ≤ mostCores) ⌝ }
     ensures { λ r. ⌜ Lasts (length (now (core .entry))) (now (core .entry)) (now (end .entry)) (r .ends) ⌝ }
 {
     let mut taken = Taken {
@@ -35,7 +36,7 @@ fn last_ends(end: &[u32], core: &[u32]) -> Taken
 
 // The least of the last ends on the cores 1 to n.
 fn least_end(taken: Taken, n: u32) -> u32
-    requires { ⌜ (1 ≤ n) × (n ≤ 16) ⌝ }
+    requires { ⌜ (1 ≤ n) × (n ≤ mostCores) ⌝ }
     ensures { λ r. ⌜ LeastOf (taken .ends) (n + 1) r ⌝ }
 {
     let mut least = taken.ends[1];
@@ -49,7 +50,7 @@ fn least_end(taken: Taken, n: u32) -> u32
 
 // The cores before the first start.
 pub(crate) fn free_cores(n: u32, end: &[u32], core: &[u32]) -> Taken
-    requires { ⌜ (1 ≤ n) × (n ≤ 16) × (length (now end) ≡ length (now core)) × ((k : ℕ) → getD (now core) k 0 ≤ 16) ⌝ }
+    requires { ⌜ (1 ≤ n) × (n ≤ mostCores) × (length (now end) ≡ length (now core)) × ((k : ℕ) → getD (now core) k 0 ≤ mostCores) ⌝ }
     ensures { λ r. ⌜ Lasts (length (now (core .entry))) (now (core .entry)) (now (end .entry)) (r .ends) × LeastOf (r .ends) (n + 1) (r .least) ⌝ }
 {
     let mut taken = last_ends(end, core);
@@ -60,7 +61,7 @@ pub(crate) fn free_cores(n: u32, end: &[u32], core: &[u32]) -> Taken
 
 // The cores below c, and now core c: taken until an end if none was and it is free at t.
 fn try_core(cores: Taken, c: u32, t: u32, end: u32) -> Taken
-    requires { ⌜ (1 ≤ c) × (c ≤ 16) ⌝ }
+    requires { ⌜ (1 ≤ c) × (c ≤ mostCores) ⌝ }
     ensures { λ r. ⌜ ((xs : List ℕ) → Taking xs t end c cores → Taking xs t end (c + 1) r) ⌝ }
 {
     let mut next = cores;
@@ -79,7 +80,7 @@ fn try_core(cores: Taken, c: u32, t: u32, end: u32) -> Taken
 
 // The lowest of the cores 1 to n whose last end is no later than t, taken until an end.
 pub(crate) fn take_core(cores: Taken, n: u32, t: u32, end: u32) -> Taken
-    requires { ⌜ (1 ≤ n) × (n ≤ 16) × ((d : ℕ) × (1 ≤ d) × (d ≤ n) × (getD (cores .ends) d 0 ≤ t)) ⌝ }
+    requires { ⌜ (1 ≤ n) × (n ≤ mostCores) × ((d : ℕ) × (1 ≤ d) × (d ≤ n) × (getD (cores .ends) d 0 ≤ t)) ⌝ }
     ensures { λ r. ⌜ Takes (cores .ends) n t end r ⌝ }
 {
     let mut next = cores;

@@ -7,60 +7,55 @@ use base::later;
 use choose::choose;
 use cores::free_cores;
 use cores::take_core;
-use model::Tasks;
+use table::CORE;
+use table::END;
+use table::GREATEST;
+use table::RANK;
+use table::READY;
+use table::START;
+use table::column;
+use table::put_row;
 ghost use mathlib.Core.Path.{_≡_};
-ghost use mathlib.Core.List.{map};
-ghost use Prim.Native.Nat.{ℕ};
+ghost use mathlib.Core.List.{List};
+ghost use Prim.Native.Nat.{ℕ, _+_, _*_, _≤_};
+ghost use lib.ListN.{length, take, drop};
+ghost use Rattle.base.specs.Find.{seenTwo};
 ghost use Rattle.model.specs.Carry.{carried};
-ghost use Rattle.model.specs.Model.{Run, task as taskIn};
-ghost use Rattle.model.specs.declared.record.Record.{Record};
-ghost use Rattle.starts.specs.Columns.{Opened};
+ghost use Rattle.model.specs.Model.{Run, mostRecords};
+ghost use Rattle.starts.specs.Choice.{Choice};
+ghost use Rattle.starts.specs.Opened.{Opened};
+ghost use Rattle.table.specs.Table.{Lent, columns};
 
-// The greatest time of a task; 0 where there is no such task.
-fn greatest_time(tasks: Tasks, i: u32) -> u32
-    ensures { λ r. ⌜ r ≡ taskIn (tasks .list) i .greatest ⌝ }
+// The job of a table that starts first from v on, and when.
+fn next_job(v: u32, t: &[u32], n: usize) -> FoundTwo
+    requires { ⌜ (n ≤ mostRecords) × (length (now t) ≡ columns * n) ⌝ }
+    ensures { λ r. ⌜ Choice n v (take n (drop (5 * n) (now (t .entry)))) (take n (drop (12 * n) (now (t .entry)))) (take n (drop (11 * n) (now (t .entry)))) (seenTwo r) ⌝ }
 {
-    if Tasks::MOST <= i {
-        return 0;
-    }
-    let task = tasks.list[i as usize];
-    task.greatest
+    choose(
+        v,
+        column(t, n, CORE),
+        column(t, n, READY),
+        column(t, n, RANK),
+    )
 }
 
-// All jobs that have not begun start, one after the other, from the horizon on: the columns of the carry.
-pub fn start_all(
-    n: u32,
-    horizon: u32,
-    tasks: Tasks,
-    task: &[u32],
-    ready: &[u32],
-    rank: &[u64],
-    start: &mut [u32],
-    end: &mut [u32],
-    core: &mut [u32],
-)
-    requires { ⌜ ((ρ : Run) × (H′ : ℕ)
-        × Opened ρ H′ horizon n (tasks .list) (now task) (now ready) (now rank) (now start) (now end) (now core)) ⌝ }
-    ensures { λ _. ⌜ ((ρ : Run) (H′ : ℕ)
-        → Opened ρ H′ horizon n (tasks .list) (now (task .entry)) (now (ready .entry)) (now (rank .entry)) (now (start .entry)) (now (end .entry)) (now (core .entry))
-        → (now (start .exit) ≡ map (λ (x : Record). x .start) (carried ρ H′ .records))
-        × (now (end .exit) ≡ map (λ (x : Record). x .end) (carried ρ H′ .records))
-        × (now (core .exit) ≡ map (λ (x : Record). x .core) (carried ρ H′ .records))) ⌝ }
+// All jobs that have not begun start, one after the other, from the horizon on: the table of the carry.
+pub fn start_all(cores: u32, horizon: u32, t: &mut [u32], n: usize)
+    requires { ⌜ ((ρ : Run) × (H′ : ℕ) × Opened ρ H′ cores horizon (now t) n) ⌝ }
+    ensures { λ _. ⌜ ((ρ : Run) (H′ : ℕ) → Opened ρ H′ cores horizon (now (t .entry)) n → Lent columns (carried ρ H′) (now (t .exit)) n) ⌝ }
 {
-    let mut taken = free_cores(n, end, core);
-    let mut t = horizon;
-    let mut left = task.len();
+    let mut taken = free_cores(cores, column(t, n, END), column(t, n, CORE));
+    let mut at = horizon;
+    let mut left = n;
     while 0 < left {
-        match choose(later(t, taken.least), core, ready, rank) {
+        match next_job(later(at, taken.least), t, n) {
             FoundTwo::Nothing => return,
             FoundTwo::At(u, job) => {
                 let k = job as usize;
-                let e = u + greatest_time(tasks, task[k]);
-                taken = take_core(taken, n, u, e);
-                start[k] = u;
-                end[k] = e;
-                core[k] = taken.core;
-                t = u;
+                let e = u + t[GREATEST * n + k];
+                taken = take_core(taken, cores, u, e);
+                put_row(t, n, k, START, [u, e, taken.core, 0, 0, 0, 0], 3);
+                at = u;
             }
         }
         left -= 1;

@@ -1,19 +1,21 @@
 -- Numbers put one after the other are put together; rows, one after the other, are a file's sections. Assumes nothing.
-use Prim.Native.Nat.{ℕ, zero, suc, _+_, _*_, _≤_}
+use Prim.Native.Nat.{ℕ, zero, suc, _+_, _*_, _≤_, _<_}
 use mathlib.Core.Path.{_≡_, refl, sym, _∙_, ap}
-use mathlib.Core.List.{List, [], _∷_, _++_, map, append-assoc, append-nil}
+use mathlib.Core.List.{List, [], _∷_, _++_, append-assoc, append-nil}
 use native.Mathlib.Numerals.{add-one}
 use native.Mathlib.Omega.{arith}
-use lib.ListN.{length, getD, take, length-append, length-map, List·getD-map}
-use lib.Seq.{take-suc, take-length, length-take-le}
-use Rattle.model.specs.declared.task.Task.{Task}
-use Rattle.model.specs.declared.record.Record.{Record}
-use Rattle.model.specs.Model.{Run, noTask, noRecord}
-use Rattle.model.specs.File.{bytes, bytesOf, joined, taskNumbers, recordNumbers}
+use lib.ListN.{length, getD, take, length-append}
+use lib.Seq.{take-suc, take-length}
+use Rattle.model.specs.Model.{Run, mostTasks, task, rec, noTask, noRecord}
+use Rattle.model.specs.File.{bytes, bytesOf, joined, settingNumbers, taskNumbers, recordNumbers, taskAt, tasksPlace, taskSize}
 use Rattle.model.specs.Calls.{front}
+use Rattle.model.proofs.Reading.{length-entries, entries-at}
+use Rattle.openfile.specs.declared.head.Head.{Head}
+use Rattle.table.specs.Table.{recorded, numberAt}
 use Rattle.wire.specs.Put.{put}
-use Rattle.wire.proofs.Putting.{put-next}
-use Rattle.writing.specs.Puts.{puts, Wrote, rows, taskRow, recordRow}
+use Rattle.wire.proofs.Put.{put-next}
+use Rattle.writing.specs.WrittenRows.{puts, Wrote, rows, taskRow, recordRow}
+use Rattle.writing.specs.RunOfTable.{Tabled}
 
 -- Numbers one after the other.
 -- ----------------------------
@@ -40,32 +42,16 @@ wrote-more {s} {t} {u} {xs} {ys} {i} {j} {k} w v = record {
   long = v .long ∙ w .long;
 }
 
--- four, five and six numbers, put one by one
-module _ (s : List ℕ) (i a b c d : ℕ) where
-  put-four : put (put (put (put s i a) (i + 4) b) (i + 8) c) (i + 12) d ≡ puts s i (a ∷ b ∷ c ∷ d ∷ [])
-  unfolding puts
-  put-four =
-      let p : i + 4 + 4 ≡ i + 8 = omega arith in
-      let q : i + 8 + 4 ≡ i + 12 = omega arith in
-      rw (p, q)
+-- the first numbers of a list, one more and one more
+pub numbers-none : (s : List ℕ) (i : ℕ) → Wrote s i [] s (i + 4 * 0)
+unfolding puts
+numbers-none s i = record { place = refl; slice = refl; long = refl }
 
-  put-five : (e : ℕ) → put (put (put (put (put s i a) (i + 4) b) (i + 8) c) (i + 12) d) (i + 16) e ≡ puts s i (a ∷ b ∷ c ∷ d ∷ e ∷ [])
-  unfolding puts
-  put-five e = ap (λ t. put t (i + 16) e) put-four ∙ puts-more (a ∷ b ∷ c ∷ d ∷ []) (e ∷ []) s i (i + 16) refl
-
-  put-six : (e f : ℕ) → put (put (put (put (put (put s i a) (i + 4) b) (i + 8) c) (i + 12) d) (i + 16) e) (i + 20) f ≡ puts s i (a ∷ b ∷ c ∷ d ∷ e ∷ f ∷ [])
-  unfolding puts
-  put-six e f = ap (λ t. put t (i + 20) f) (put-five e) ∙ puts-more (a ∷ b ∷ c ∷ d ∷ e ∷ []) (f ∷ []) s i (i + 20) refl
-
-module _ {s t u v w : List ℕ} {i a b c d : ℕ} (p : t ≡ put s i a) (q : u ≡ put t (i + 4) b) (r : v ≡ put u (i + 8) c) (o : w ≡ put v (i + 12) d) where
-  pub wrote-four : length w ≡ length s → Wrote s i (a ∷ b ∷ c ∷ d ∷ []) w (i + 16)
-  wrote-four l = record { place = refl; slice = cc (put-four s i a b c d); long = l }
-
-  pub wrote-five : {x : List ℕ} {e : ℕ} → x ≡ put w (i + 16) e → length x ≡ length s → Wrote s i (a ∷ b ∷ c ∷ d ∷ e ∷ []) x (i + 20)
-  wrote-five {x} {e} m l = record { place = refl; slice = cc (put-five s i a b c d e); long = l }
-
-  pub wrote-six : {x y : List ℕ} {e f : ℕ} → x ≡ put w (i + 16) e → y ≡ put x (i + 20) f → length y ≡ length s → Wrote s i (a ∷ b ∷ c ∷ d ∷ e ∷ f ∷ []) y (i + 24)
-  wrote-six {x} {y} {e} {f} m n l = record { place = refl; slice = cc (put-six s i a b c d e f); long = l }
+pub numbers-on : {s t u : List ℕ} {i : ℕ} (vs : List ℕ) (k : ℕ) → Wrote s i (take k vs) t (i + 4 * k) → k < length vs
+    → u ≡ put t (i + 4 * k) (getD vs k 0) → length u ≡ length t → Wrote s i (take (k + 1) vs) u (i + 4 * (k + 1))
+numbers-on {i = i} vs k w h e l =
+    let j : i + 4 * (k + 1) ≡ i + 4 * k + 4 = omega arith in
+    rw (j, add-one k, take-suc vs k 0 h) (wrote-more w (wrote-put e l))
 
 -- Rows.
 -- -----
@@ -73,78 +59,63 @@ pub rows-none : (row : ℕ → List ℕ) {s : List ℕ} {i j : ℕ} → j ≡ i 
 unfolding puts rows
 rows-none row e = record { place = omega arith; slice = refl; long = refl }
 
-pub rows-more : (row : ℕ → List ℕ) (n : ℕ) {s t u : List ℕ} {i j k l : ℕ}
-    → Wrote s i (rows row n) t j → Wrote t j (row n) u k → k ≡ l → Wrote s i (rows row (n + 1)) u l
+pub rows-more : (row : ℕ → List ℕ) (n : ℕ) {s t u vs : List ℕ} {i j j′ k l : ℕ}
+    → Wrote s i (rows row n) t j → Wrote t j′ vs u k → j′ ≡ j → vs ≡ row n → k ≡ l → Wrote s i (rows row (n + 1)) u l
 unfolding rows
-rows-more row n w v e = rw (add-one n, ← e) (wrote-more w v)
+rows-more row n w v p e q = rw (add-one n, ← q, ← e) (wrote-more w (rw p at v))
 
 joined-append : {A : Type 0} (f : A → List ℕ) (xs ys : List A) → joined f (xs ++ ys) ≡ joined f xs ++ joined f ys
 joined-append f [] ys = refl
 joined-append f (x ∷ xs) ys = ap (λ l. f x ++ l) (joined-append f xs ys) ∙ sym (append-assoc (f x) (joined f xs) (joined f ys))
 
-rows-joined : {A : Type 0} (f : A → List ℕ) (d : A) (row : ℕ → List ℕ) (xs : List A) (n : ℕ)
-    → ((k : ℕ) → row k ≡ f (getD xs k d)) → n ≤ length xs → rows row n ≡ joined f (take n xs)
-unfolding rows
-rows-joined f d row xs zero is h = refl
-rows-joined f d row xs (suc n) is h =
-    rw (take-suc xs n d (omega arith), joined-append, append-nil, is n, rows-joined f d row xs n is (omega arith))
+-- rows that are the numbers of the entries of a list
+module _ {A : Type 0} (f : A → List ℕ) (d : A) (row : ℕ → List ℕ) (xs : List A) (is : (k : ℕ) → k < length xs → row k ≡ f (getD xs k d)) where
+  rows-first : (n : ℕ) → n ≤ length xs → rows row n ≡ joined f (take n xs)
+  unfolding rows
+  rows-first zero h = refl
+  rows-first (suc n) h = rw (take-suc xs n d (omega arith), joined-append, append-nil, is n (omega arith), rows-first n (omega arith))
+
+  rows-joined : (n : ℕ) → n ≡ length xs → rows row n ≡ joined f xs
+  rows-joined n e = ap (rows row) e ∙ rows-first (length xs) (omega arith) ∙ ap (joined f) (take-length xs)
 
 -- The file of a run.
 -- ------------------
-module _ (ρ : Run) {task job release start end core : List ℕ}
-    (is-task : task ≡ map (λ x. x .task) (ρ .records))
-    (is-job : job ≡ map (λ x. x .job) (ρ .records))
-    (is-release : release ≡ map (λ x. x .release) (ρ .records))
-    (is-start : start ≡ map (λ x. x .start) (ρ .records))
-    (is-end : end ≡ map (λ x. x .end) (ρ .records))
-    (is-core : core ≡ map (λ x. x .core) (ρ .records)) where
-  number-at : {column : List ℕ} (f : Record → ℕ) → f noRecord ≡ 0 → column ≡ map f (ρ .records) → (k : ℕ) → getD column k 0 ≡ f (getD (ρ .records) k noRecord)
-  number-at f z e k = rw e (ap (getD (map f (ρ .records)) k) (sym z) ∙ List·getD-map f (ρ .records) k noRecord)
+module _ {b : List ℕ} {h : Head} {H : ℕ} {t : List ℕ} {m : ℕ} {σ : Run} (T : Tabled b h H t m σ) where
+  task-count-is : length (σ .tasks) ≡ h .tasks
+  task-count-is = ap length (T .tasks) ∙ length-entries (taskAt b) taskSize (tasksPlace + 4) (h .tasks)
 
-  row-is : (k : ℕ) → recordRow task job release start end core k ≡ recordNumbers (getD (ρ .records) k noRecord)
+  pub few-tasks : h .tasks ≤ mostTasks
+  few-tasks = omega (arith, task-count-is, T .table .limits .task-count .1)
+
+  task-is : (k : ℕ) → k < length (σ .tasks) → taskRow b k ≡ taskNumbers (task (σ .tasks) k)
+  unfolding taskRow
+  task-is k l =
+      let i : k < h .tasks = omega (arith, task-count-is) in
+      sym (ap taskNumbers (ap (λ τs. task τs k) (T .tasks) ∙ entries-at (taskAt b) taskSize (tasksPlace + 4) (h .tasks) k noTask i))
+
+  record-is : (k : ℕ) → k < length (σ .records) → recordRow t m k ≡ recordNumbers (rec σ k)
   unfolding recordRow
-  row-is k =
-      let a = number-at (λ x. x .task) refl is-task k in
-      let b = number-at (λ x. x .job) refl is-job k in
-      let c = number-at (λ x. x .release) refl is-release k in
-      let d = number-at (λ x. x .start) refl is-start k in
-      let e = number-at (λ x. x .end) refl is-end k in
-      let f = number-at (λ x. x .core) refl is-core k in
-      rw (a, b, c, d, e, f)
+  record-is k l =
+      let i : k < m = omega (arith, T .table .count) in
+      let at : (j : ℕ) → j < recorded → getD t (j * m + k) 0 ≡ numberAt σ j k = λ j u. T .table .number j k u i in
+      rw (at 0 (omega arith), at 1 (omega arith), at 2 (omega arith), at 3 (omega arith), at 4 (omega arith), at 5 (omega arith))
 
-  count-is : length task ≡ length (ρ .records)
-  count-is = ap length is-task ∙ length-map (ρ .records) (λ x. x .task)
+  abbrev written : List ℕ
+  written = (2 ∷ h .setting .cores ∷ H ∷ h .tasks ∷ []) ++ rows (taskRow b) (h .tasks) ++ (m ∷ []) ++ rows (recordRow t m) m
 
-  records-are : rows (recordRow task job release start end core) (length task) ≡ joined recordNumbers (ρ .records)
-  records-are =
-      rw count-is
-      (rows-joined recordNumbers noRecord (recordRow task job release start end core) (ρ .records) (length (ρ .records)) row-is (omega arith)
-      ∙ ap (joined recordNumbers) (take-length (ρ .records)))
+  bytes-are : bytesOf written ≡ bytes σ
+  unfolding bytes
+  bytes-are =
+      let tasks = rows-joined taskNumbers noTask (taskRow b) (σ .tasks) task-is (h .tasks) (sym task-count-is) in
+      let records = rows-joined recordNumbers noRecord (recordRow t m) (σ .records) record-is m (T .table .count) in
+      let after : List ℕ = length (σ .records) ∷ joined recordNumbers (σ .records) in
+      let e : written ≡ 2 ∷ settingNumbers (σ .setting) ++ (length (σ .tasks) ∷ joined taskNumbers (σ .tasks)) ++ after =
+      rw (tasks, records, append-assoc (joined taskNumbers (σ .tasks)), T .setting, task-count-is, T .table .count) in
+      ap bytesOf e
 
-  module _ (τs : List Task) (n : ℕ) (enough : n ≤ length τs) (tasks-first : ρ .tasks ≡ take n τs) where
-    tasks-are : rows (taskRow τs) n ≡ joined taskNumbers (ρ .tasks)
-    unfolding taskRow
-    tasks-are = rows-joined taskNumbers noTask (taskRow τs) τs n (λ k. refl) enough ∙ ap (joined taskNumbers) (sym tasks-first)
-
-    task-count-is : n ≡ length (ρ .tasks)
-    task-count-is = sym (ap length tasks-first ∙ length-take-le n τs enough)
-
-    module _ {cores horizon : ℕ} (is-cores : ρ .setting .cores ≡ cores) (is-horizon : ρ .setting .horizon ≡ horizon) where
-      abbrev written : List ℕ
-      written =
-          (2 ∷ cores ∷ horizon ∷ n ∷ []) ++ rows (taskRow τs) n ++ (length task ∷ []) ++ rows (recordRow task job release start end core) (length task)
-
-      bytes-are : bytesOf written ≡ bytes ρ
-      unfolding bytes
-      bytes-are =
-          let later : List ℕ = length (ρ .records) ∷ joined recordNumbers (ρ .records) in
-          let e : written ≡ 2 ∷ ρ .setting .cores ∷ ρ .setting .horizon ∷ length (ρ .tasks) ∷ joined taskNumbers (ρ .tasks) ++ later =
-          rw (tasks-are, records-are, append-assoc (joined taskNumbers (ρ .tasks)), count-is, task-count-is, is-cores, is-horizon) in
-          ap bytesOf e
-
-      -- the head, the tasks, the record count and the records, one after the other
-      pub wrote-run : {s u v w t : List ℕ} {i j k l : ℕ} → Wrote s 0 (2 ∷ cores ∷ horizon ∷ n ∷ []) u i → Wrote u i (rows (taskRow τs) n) v j
-          → Wrote v j (length task ∷ []) w k → Wrote w k (rows (recordRow task job release start end core) (length task)) t l
-          → t ≡ front (bytes ρ) s
-      wrote-run {s} a b c d =
-          wrote-more (wrote-more (wrote-more a b) c) d .slice ∙ puts-front written [] s 0 refl ∙ ap (λ bs. front bs s) bytes-are
+  -- the head, the tasks, the record count and the records, one after the other
+  pub wrote-run : {s u v w x : List ℕ} {i j j′ k o : ℕ} → Wrote s 0 (2 ∷ h .setting .cores ∷ H ∷ h .tasks ∷ []) u i
+      → Wrote u i (rows (taskRow b) (h .tasks)) v j → j′ ≡ j → Wrote v j′ (m ∷ []) w k → Wrote w k (rows (recordRow t m) m) x o
+      → x ≡ front (bytes σ) s
+  wrote-run {s} p q e r o =
+      wrote-more (wrote-more (wrote-more p q) (rw e at r)) o .slice ∙ puts-front written [] s 0 refl ∙ ap (λ bs. front bs s) bytes-are

@@ -1,142 +1,96 @@
 -- All jobs that wait start, turn by turn. Assumes nothing.
-use Prim.Native.Nat.{_≤_}
-use mathlib.Core.Path.{sym, _∙_, ap}
+use Prim.Native.Nat.{_*_, max}
+use mathlib.Core.Path.{refl, sym, _∙_, ap}
 use mathlib.Core.Logic.{inl, inr}
 use native.Mathlib.Omega.{arith}
 use borrow.Author.Needs.{needs}
-use lib.ListN.{length, getD}
+use lib.ListN.{take, drop}
 use Rattle.base.specs.Find.{seenTwo}
-use Rattle.starts.proofs.Opened.{cores, lengths, on-core}
-use Rattle.starts.proofs.Turns.{Kept, kept-first, Turning, turning, core-free, kept-on, Comes, comes-first, comes-on, comes-done}
+use Rattle.model.specs.Carry.{opening}
+use Rattle.starts.specs.Choice.{Chosen}
+use Rattle.starts.proofs.AllTurns.{Reached, Comes, on-core, reached-first, some-cores, in-table, core-free, reached-on, comes-done}
 use Rattle.starts.proofs.start_all.Statement.{statement}
 use Rattle.starts.proofs.start_all.Tie as tie
 
 abbrev Inv-loop : tie.InvT-loop
-Inv-loop n horizon tasks task ready rank start₀ end₀ core₀ taken₀ t₀ left₀ start end core taken t left =
-    Kept (length task) n (tasks .list) ready rank start end core taken t left
-    × Comes n horizon (tasks .list) task ready rank start₀ end₀ core₀ start end core t left
+Inv-loop cores horizon t₀ n taken₀ at₀ left₀ t taken at left = Comes cores horizon t₀ n t taken at left
 
 abbrev μ-loop : tie.MeasureT-loop
-μ-loop n horizon tasks task ready rank start₀ end₀ core₀ taken₀ t₀ left₀ start end core taken t left = left
+μ-loop cores horizon t₀ n taken₀ at₀ left₀ t taken at left = left
 
--- where a job is found
+-- the job that is found
 found : (c : tie.After-known-told Inv-loop μ-loop)
-    → let x = c .before in
-    let y = c .before .before .before .before .before .before .before in
-    let a = y .before .before .before .before .before .before .before .before .before .before .args in
-    Turning (length (a .task .now)) (a .n) (a .tasks .list) (a .ready .now) (a .rank .now) (y .loop .start) (y .loop .end) (y .loop .core)
-    (y .loop .taken) (y .loop .t) (y .loop .left) (x .u .given .0 .0) (x .u .given .0 .1 .0)
+    → let y = c .before .before .before .before .before .before .before in
+    let t = y .loop .t in
+    let n = y .before .before .before .before .before .before .args .n in
+    Chosen n (max (y .loop .at) (y .loop .taken .least)) (take n (drop (5 * n) t)) (take n (drop (12 * n) t)) (take n (drop (11 * n) t))
+    (c .before .u .given .0 .0) (c .before .u .given .0 .1 .0)
 found c =
-    let x = c .before in
     let y = c .before .before .before in
-    let C = y .choose .ensures .chosen _ _ (ap seenTwo (x .u .given .1)) in
-    turning (y .before .before .before .before .loop .inv .0) (rw (y .before .before .later .ensures) at C)
+    rw (y .before .before .later .ensures) at (y .next-job .ensures .chosen _ _ (ap seenTwo (c .before .u .given .1)))
+
+-- how far the carry of the run at hand has come
+reached : (c : tie.After-known-told Inv-loop μ-loop)
+    → let y = c .before .before .before .before .before .before .before in
+    let a = y .before .before .before .before .before .before .args in
+    let p = y .before .before .before .before .before .before .pre in
+    Reached (opening (p .0) (p .1)) (a .horizon) (a .cores) (y .loop .t) (a .n) (y .loop .taken) (y .loop .at) (y .loop .left)
+reached c = let p = c .before .before .before .before .before .before .before .before .before .before .before .before .before .pre in c .before .before .before .before .before .before .before .loop .inv .reached (p .0) (p .1) (p .2)
 
 free-cores-requires : tie.Need-free-cores-requires Inv-loop μ-loop
 free-cores-requires c κs =
-    let X = c .before .before .before .before .before .before .before .before .pre .2 in
-    let l = lengths X in
-    (cores X .0, cores X .1, l .3 ∙ sym (l .4), on-core X)
+    let X = c .before .before .before .before .pre .2 in
+    let end = c .before .column .ensures in
+    let core = c .column2 .ensures in
+    (omega (arith, X .limits .setting .cores), omega (arith, X .limits .setting .cores), end .1 ∙ sym (core .1), on-core X (end .0) (core .0) (core .1))
 
 loop-holds : tie.Need-loop-holds Inv-loop μ-loop
 loop-holds c =
-    let X = c .before .before .before .before .before .before .before .before .before .pre .2 in
-    (kept-first X (c .free-cores .ensures .0) (c .free-cores .ensures .1), comes-first)
-
-later-requires : tie.Need-later-requires Inv-loop μ-loop
-later-requires c κs = search needs
-
-choose-requires : tie.Need-choose-requires Inv-loop μ-loop
-choose-requires c κs = omega (arith, c .before .before .before .loop .inv .0)
+    let end = c .before .before .column .ensures in
+    let core = c .before .column2 .ensures in
+    let free = c .free-cores .ensures in
+    record { long = refl; reached = λ ρ H′ X. reached-first X (end .0) (core .0) (core .1) (free .0) (free .1) }
 
 enum-told : tie.Need-enum-told Inv-loop μ-loop
 enum-told c = search needs
 
-same-length : tie.Need-same-length Inv-loop μ-loop
-same-length c = search needs
-
-same-length-2 : tie.Need-same-length-2 Inv-loop μ-loop
-same-length-2 c = search needs
-
-same-length-3 : tie.Need-same-length-3 Inv-loop μ-loop
-same-length-3 c = search needs
-
 returns : tie.Need-returns Inv-loop μ-loop
-returns c =
-    let y = c .before .before in
-    comes-done (y .before .before .before .before .loop .inv .1) (inr (y .choose .ensures .nobody (ap seenTwo (c .enum-told .given .1))))
-
-enum-known-u : tie.Need-enum-known-u Inv-loop μ-loop
-enum-known-u c = search needs
+returns c = comes-done (c .before .before .before .before .before .before .loop .inv) (inr (c .before .before .next-job .ensures .nobody (ap seenTwo (c .enum-told .given .1))))
 
 cast-k : tie.Need-cast-k Inv-loop μ-loop
-cast-k c = omega (arith, found c)
+cast-k c = omega (arith, in-table (reached c) (found c))
 
-mul-greatest-time : tie.Need-mul-greatest-time Inv-loop μ-loop
-mul-greatest-time c = omega (arith, found c)
-
-shared-slice-read-greatest-time : tie.Need-shared-slice-read-greatest-time Inv-loop μ-loop
-shared-slice-read-greatest-time c = omega (arith, found (c .before))
-
-greatest-time-requires : tie.Need-greatest-time-requires Inv-loop μ-loop
-greatest-time-requires c κs = search needs
-
--- what starts is short
-short : (c : tie.After-greatest-time Inv-loop μ-loop) → c .greatest-time .result ≤ 1000000
-short c =
-    let x = c .before .before .before in
-    let a = x .before .before .before .before .before .before .before .before .before .before .before .before .before .before .before .before .args in
-    omega (arith, found (c .before .before) .kept .short (getD (a .task .now) (x .u .given .0 .1 .0) 0), c .greatest-time .ensures)
+mul-e : tie.Need-mul-e Inv-loop μ-loop
+mul-e c = omega (arith, in-table (reached c) (found c))
 
 add-e : tie.Need-add-e Inv-loop μ-loop
-add-e c = omega (arith, found (c .before .before), short c)
+add-e c = omega (arith, in-table (reached c) (found c))
+
+mul-e-2 : tie.Need-mul-e-2 Inv-loop μ-loop
+mul-e-2 c = omega (arith, in-table (reached c) (found c))
+
+slice-read-e : tie.Need-slice-read-e Inv-loop μ-loop
+slice-read-e c = omega (arith, in-table (reached (c .before)) (found (c .before)))
+
+add-e-2 : tie.Need-add-e-2 Inv-loop μ-loop
+add-e-2 c = omega (arith, in-table (reached (c .before)) (found (c .before)))
 
 take-core-requires : tie.Need-take-core-requires Inv-loop μ-loop
-take-core-requires c κs = let F = found (c .before .before) in (F .kept .some-core, F .kept .few-cores, core-free F)
+take-core-requires c κs = let R = reached (c .before) in (some-cores R .0, some-cores R .1, core-free R (found (c .before)))
 
-mul-start : tie.Need-mul-start Inv-loop μ-loop
-mul-start c = omega (arith, found (c .before .before .before))
-
-slice-write-start : tie.Need-slice-write-start Inv-loop μ-loop
-slice-write-start c = omega (arith, found (c .before .before .before))
-
-mul-end : tie.Need-mul-end Inv-loop μ-loop
-mul-end c = omega (arith, found (c .before .before .before))
-
-slice-write-end : tie.Need-slice-write-end Inv-loop μ-loop
-slice-write-end c = omega (arith, found (c .before .before .before))
-
-mul-core : tie.Need-mul-core Inv-loop μ-loop
-mul-core c = omega (arith, found (c .before .before .before))
-
-slice-write-core : tie.Need-slice-write-core Inv-loop μ-loop
-slice-write-core c = omega (arith, found (c .before .before .before))
-
-sub-left : tie.Need-sub-left Inv-loop μ-loop
-sub-left c = search needs
-
-loop-less : tie.Need-loop-less Inv-loop μ-loop
-loop-less c = search needs
+put-row-requires : tie.Need-put-row-requires Inv-loop μ-loop
+put-row-requires c κs = let f = in-table (reached (c .before .before .before)) (found (c .before .before .before)) in (f .0, omega arith, omega arith, f .2)
 
 loop-again : tie.Need-loop-again Inv-loop μ-loop
 loop-again c =
-    let F = found (c .before .before .before) in
-    let x = c .before .before .before .before .before .before .before .before .before .before .loop in (
-      kept-on F (omega arith) (short (c .before)) (c .take-core .ensures),
-      comes-on (x .inv .1) F (c .before .greatest-time .ensures) (c .take-core .ensures),
-    )
-
-same-length-4 : tie.Need-same-length-4 Inv-loop μ-loop
-same-length-4 c = search needs
-
-same-length-5 : tie.Need-same-length-5 Inv-loop μ-loop
-same-length-5 c = search needs
-
-same-length-6 : tie.Need-same-length-6 Inv-loop μ-loop
-same-length-6 c = search needs
+    let x = c .before .before .before .before .before .before in
+    record {
+      long = c .before .before .put-row .ensures .long ∙ x .before .before .before .before .before .before .before .loop .inv .long;
+      reached = λ ρ H′ X. reached-on (x .before .before .before .before .before .before .before .loop .inv .reached ρ H′ X) (found x) (c .before .before .before .before .take-core .ensures) (c .before .before .put-row .ensures);
+    }
 
 returns-2 : tie.Need-returns-2 Inv-loop μ-loop
-returns-2 c = comes-done (c .before .loop .inv .1) (inl (omega arith))
+returns-2 c = comes-done (c .before .loop .inv) (inl (omega arith))
 
 pub start-all-spec : {M : Type 1} → statement M
 start-all-spec =
@@ -144,32 +98,26 @@ start-all-spec =
     (tie.spec
     Inv-loop
     μ-loop
+    (λ c κs. search needs)
+    (λ c κs. search needs)
     free-cores-requires
     loop-holds
-    later-requires
-    choose-requires
+    (λ c κs. search needs)
+    (λ c κs. search needs)
     enum-told
-    same-length
-    same-length-2
-    same-length-3
+    (λ c. search needs)
     returns
-    enum-known-u
+    (λ c. search needs)
     cast-k
-    mul-greatest-time
-    shared-slice-read-greatest-time
-    greatest-time-requires
+    mul-e
     add-e
+    mul-e-2
+    slice-read-e
+    add-e-2
     take-core-requires
-    mul-start
-    slice-write-start
-    mul-end
-    slice-write-end
-    mul-core
-    slice-write-core
-    sub-left
-    loop-less
+    put-row-requires
+    (λ c. search needs)
+    (λ c. search needs)
     loop-again
-    same-length-4
-    same-length-5
-    same-length-6
+    (λ c. search needs)
     returns-2)

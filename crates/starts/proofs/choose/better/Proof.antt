@@ -8,29 +8,11 @@ use Rattle.starts.proofs.Choosing.{passed, kept, first-waits, sooner}
 use Rattle.starts.proofs.choose.better.Statement.{statement}
 use Rattle.starts.proofs.choose.better.Tie as tie
 
-mul-if1 : tie.Need-mul-if1
-mul-if1 c = search needs
-
-shared-slice-read-if1 : tie.Need-shared-slice-read-if1
-shared-slice-read-if1 c = search needs
-
 returns : tie.Need-returns
 returns c = passed (c .before .before .before .before .before .pre .3) (c .if1 .taken)
 
-mul-later : tie.Need-mul-later
-mul-later c = search needs
-
-shared-slice-read-later : tie.Need-shared-slice-read-later
-shared-slice-read-later c = search needs
-
-later-requires : tie.Need-later-requires
-later-requires c κs = search needs
-
 enum-told : tie.Need-enum-told
 enum-told c = search needs
-
-enum-known-best : tie.Need-enum-known-best
-enum-known-best c = search needs
 
 returns-2 : tie.Need-returns-2
 returns-2 c =
@@ -43,18 +25,6 @@ returns-3 c =
     let g = c .before .before .before in
     let s = g .before .before .before .before .before .before .before .before .before in
     kept (s .pre .3) (ap seenTwo (g .best .given .1)) (g .before .before .later .ensures) (inl (c .if3 .taken))
-
-mul-if4 : tie.Need-mul-if4
-mul-if4 c = search needs
-
-shared-slice-read-if4 : tie.Need-shared-slice-read-if4
-shared-slice-read-if4 c = search needs
-
-cast-if4 : tie.Need-cast-if4
-cast-if4 c = search needs
-
-mul-if4-2 : tie.Need-mul-if4-2
-mul-if4-2 c = search needs
 
 shared-slice-read-if4-2 : tie.Need-shared-slice-read-if4-2
 shared-slice-read-if4-2 c =
@@ -84,20 +54,20 @@ pub better-spec : {M : Type 1} → statement M
 better-spec =
     tie.close
     (tie.spec
-    mul-if1
-    shared-slice-read-if1
+    (λ c. search needs)
+    (λ c. search needs)
     returns
-    mul-later
-    shared-slice-read-later
-    later-requires
+    (λ c. search needs)
+    (λ c. search needs)
+    (λ c κs. search needs)
     enum-told
-    enum-known-best
+    (λ c. search needs)
     returns-2
     returns-3
-    mul-if4
-    shared-slice-read-if4
-    cast-if4
-    mul-if4-2
+    (λ c. search needs)
+    (λ c. search needs)
+    (λ c. search needs)
+    (λ c. search needs)
     shared-slice-read-if4-2
     returns-4
     returns-5

@@ -22,12 +22,6 @@ small c = c .before .before .before .before .before .pre .1 (c .before .before .
 loop-holds : tie.Need-loop-holds Inv-loop μ-loop
 loop-holds c = (search needs, no-ends refl (zeros 17))
 
-mul-c : tie.Need-mul-c Inv-loop μ-loop
-mul-c c = search needs
-
-shared-slice-read-c : tie.Need-shared-slice-read-c Inv-loop μ-loop
-shared-slice-read-c c = search needs
-
 cast-c : tie.Need-cast-c Inv-loop μ-loop
 cast-c c = omega (arith, small c)
 
@@ -37,26 +31,11 @@ mul-later c = omega (arith, small c)
 element-copy-out-later : tie.Need-element-copy-out-later Inv-loop μ-loop
 element-copy-out-later c = omega (arith, small c)
 
-mul-later-2 : tie.Need-mul-later-2 Inv-loop μ-loop
-mul-later-2 c = search needs
-
-shared-slice-read-later : tie.Need-shared-slice-read-later Inv-loop μ-loop
-shared-slice-read-later c = search needs
-
-later-requires : tie.Need-later-requires Inv-loop μ-loop
-later-requires c κs = search needs
-
 mul-taken : tie.Need-mul-taken Inv-loop μ-loop
 mul-taken c = omega (arith, small (c .before .before .before))
 
 element-write-taken : tie.Need-element-write-taken Inv-loop μ-loop
 element-write-taken c = omega (arith, small (c .before .before .before))
-
-add-k : tie.Need-add-k Inv-loop μ-loop
-add-k c = search needs
-
-loop-less : tie.Need-loop-less Inv-loop μ-loop
-loop-less c = search needs
 
 loop-again : tie.Need-loop-again Inv-loop μ-loop
 loop-again c =
@@ -75,17 +54,17 @@ last-ends-spec =
     Inv-loop
     μ-loop
     loop-holds
-    mul-c
-    shared-slice-read-c
+    (λ c. search needs)
+    (λ c. search needs)
     cast-c
     mul-later
     element-copy-out-later
-    mul-later-2
-    shared-slice-read-later
-    later-requires
+    (λ c. search needs)
+    (λ c. search needs)
+    (λ c κs. search needs)
     mul-taken
     element-write-taken
-    add-k
-    loop-less
+    (λ c. search needs)
+    (λ c. search needs)
     loop-again
     returns)

@@ -17,15 +17,6 @@ abbrev μ-loop : tie.MeasureT-loop
 loop-holds : tie.Need-loop-holds Inv-loop μ-loop
 loop-holds c = (search needs, search needs, none-taken (search needs) refl refl refl)
 
-try-core-requires : tie.Need-try-core-requires Inv-loop μ-loop
-try-core-requires c κs = search needs
-
-add-c : tie.Need-add-c Inv-loop μ-loop
-add-c c = search needs
-
-loop-less : tie.Need-loop-less Inv-loop μ-loop
-loop-less c = search needs
-
 loop-again : tie.Need-loop-again Inv-loop μ-loop
 loop-again c = (search needs, search needs, c .try-core .ensures _ (c .before .before .loop .inv .2))
 
@@ -37,4 +28,12 @@ returns c =
 pub take-core-spec : {M : Type 1} → statement M
 take-core-spec =
     tie.close
-    (tie.spec Inv-loop μ-loop loop-holds try-core-requires add-c loop-less loop-again returns)
+    (tie.spec
+    Inv-loop
+    μ-loop
+    loop-holds
+    (λ c κs. search needs)
+    (λ c. search needs)
+    (λ c. search needs)
+    loop-again
+    returns)

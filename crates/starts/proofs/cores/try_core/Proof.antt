@@ -5,23 +5,8 @@ use Rattle.starts.proofs.Taking.{take-it, pass-it}
 use Rattle.starts.proofs.cores.try_core.Statement.{statement}
 use Rattle.starts.proofs.cores.try_core.Tie as tie
 
-mul-e : tie.Need-mul-e
-mul-e c = search needs
-
-element-copy-out-e : tie.Need-element-copy-out-e
-element-copy-out-e c = search needs
-
-mul-next : tie.Need-mul-next
-mul-next c = search needs
-
-element-write-next : tie.Need-element-write-next
-element-write-next c = search needs
-
 returns : tie.Need-returns
 returns c = λ xs T. take-it (search needs) (search needs) T (search needs) (search needs)
-
-sooner-requires : tie.Need-sooner-requires
-sooner-requires c κs = search needs
 
 returns-2 : tie.Need-returns-2
 returns-2 c = λ xs T.
@@ -32,10 +17,10 @@ pub try-core-spec : {M : Type 1} → statement M
 try-core-spec =
     tie.close
     (tie.spec
-    mul-e
-    element-copy-out-e
-    mul-next
-    element-write-next
+    (λ c. search needs)
+    (λ c. search needs)
+    (λ c. search needs)
+    (λ c. search needs)
     returns
-    sooner-requires
+    (λ c κs. search needs)
     returns-2)

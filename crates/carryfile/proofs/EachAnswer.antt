@@ -1,0 +1,133 @@
+-- What the carry of a file is, one law for each answer: the file's own refusals, 9, 6, 10, 11, and the file that is written.
+-- Assumes nothing.
+use Prim.Native.Nat.{ℕ, _≤_}
+use mathlib.Core.Path.{_≡_, refl, sym, _∙_, ap}
+use mathlib.Core.Bool.{Bool, true, false, not, _&&_, true≢false}
+use mathlib.Core.List.{List}
+use native.Mathlib.Omega.{arith}
+use lib.Dec.{leb}
+use lib.ListN.{length}
+use Rattle.base.proofs.Test.{says-leb, says-and, says-true}
+use Rattle.carrytheory.proofs.CarryGates.{gate-opens, gate-closes}
+use Rattle.carrytheory.proofs.CarryRefusals.{refusedCarry}
+use Rattle.carrytheory.proofs.Demand3.{carried-size}
+use Rattle.model.specs.Answers.{Five, refusal, carriedTo}
+use Rattle.model.specs.Calls.{front}
+use Rattle.model.specs.Carry.{Carried, carried, gateCarry, carriedFile, carryRun, carryOf, carry}
+use Rattle.model.specs.Compute.Verdict.{verdict}
+use Rattle.model.specs.File.{read, refused, bytes, sizeOf}
+use Rattle.model.specs.Model.{Run, mostHorizon, mostJobs, totalJobs}
+use Rattle.model.specs.Rules.{Obeys, rule1}
+use Rattle.model.proofs.Demand2.{accepted-exactly-if-obeyed}
+use Rattle.model.proofs.Jobs.{existing-total}
+use Rattle.openfile.specs.declared.head.Head.{Head}
+use Rattle.openfile.specs.Head.{Tells}
+use Rattle.openfile.proofs.WholeOrRefused.{tells-limits, tells-setting, tells-task-count}
+use Rattle.standing.specs.Carriable.{Reached, Carriable}
+use Rattle.carryfile.specs.ToldAndWritten.{Carries}
+
+-- what is told and written, of what the carry is
+tells : (b : List ℕ) (H′ : ℕ) (output after : List ℕ) {f : Five} {o : Carried} → carry b H′ (length output) ≡ o → f ≡ o .told → after ≡ front (o .writes) output
+    → Carries b H′ output f after
+tells b H′ output after e f w = (f ∙ ap (λ x. x .told) (sym e), w ∙ ap (λ x. front (x .writes) output) (sym e))
+
+refuses : (b : List ℕ) (H′ : ℕ) (output : List ℕ) {ν i : ℕ} → carry b H′ (length output) ≡ refusedCarry ν i → Carries b H′ output (refusal ν i) output
+refuses b H′ output e = tells b H′ output output e refl refl
+
+-- The file's own refusals
+-- -----------------------
+pub says-refused : (b : List ℕ) (H′ : ℕ) (output : List ℕ) (ν i : ℕ) → read b ≡ refused ν i → Carries b H′ output (refusal ν i) output
+unfolding carry
+says-refused b H′ output ν i e = refuses b H′ output (ap (λ r. carryOf r H′ (length output)) e)
+
+-- A test, by its negation
+-- -----------------------
+fails : {t : Bool} → not t ≡ true → t ≡ false
+fails {t = true} e = absurd (true≢false (sym e))
+fails {t = false} e = refl
+
+holds : {t : Bool} → not t ≡ false → t ≡ true
+holds {t = true} e = refl
+holds {t = false} e = absurd (true≢false e)
+
+-- What the tests say of a run that is told
+-- ----------------------------------------
+module _ (ρ : Run) {t : Bool} {f : Five} (e : t ≡ leb (f .answer) 2) (v : f ≡ verdict ρ) where
+  accepted : t ≡ leb (verdict ρ .answer) 2
+  accepted = e ∙ ap (λ g. leb (g .answer) 2) v
+
+  pub obeys : not t ≡ false → Obeys ρ
+  obeys n = accepted-exactly-if-obeyed ρ .0 (says-leb (verdict ρ .answer) 2 .sound (sym accepted ∙ holds n))
+
+module _ {b : List ℕ} {h : Head} {ρ : Run} (T : Tells b h ρ) where
+  pub carriable : {H′ m : ℕ} → Obeys ρ → Reached ρ H′ m → Carriable b h H′ m ρ
+  carriable O R = record { tells = T; jobs = O rule1; reached = R }
+
+  module _ (H′ : ℕ) {t : Bool} (e : t ≡ (leb (h .setting .horizon) H′ && leb H′ mostHorizon)) where
+    far : t ≡ (leb (ρ .setting .horizon) H′ && leb H′ mostHorizon)
+    far = e ∙ ap (λ σ. leb (σ .horizon) H′ && leb H′ mostHorizon) (tells-setting T)
+
+    pub reached : {m : ℕ} → not t ≡ false → m ≡ totalJobs (ρ .tasks) H′ → not (leb m mostJobs) ≡ false → Reached ρ H′ m
+    reached {m} n count l =
+        let (longer, most) = says-and (says-leb (ρ .setting .horizon) H′) (says-leb H′ mostHorizon) .sound (sym far ∙ holds n) in
+        record { longer = longer; most = most; count = count; few = says-leb m mostJobs .sound (holds l) }
+
+pub fits : {s n : ℕ} (room : ℕ) → s ≡ n → not (leb s room) ≡ false → n ≤ room
+fits {s} room e n = rw e at (says-leb s room .sound (holds n))
+
+-- What the carry is then
+-- ----------------------
+module _ {b : List ℕ} {h : Head} {ρ : Run} (T : Tells b h ρ) (H′ : ℕ) (output : List ℕ) where
+  whole-is : carry b H′ (length output) ≡ carryRun ρ H′ (length output)
+  unfolding carry
+  whole-is = ap (λ r. carryOf r H′ (length output)) (T .reads)
+
+  -- by the test of the horizon and the number of jobs
+  module _ {t : Bool} (e : t ≡ (leb (h .setting .horizon) H′ && leb H′ mostHorizon)) where
+    pub says-9 : not t ≡ true → Carries b H′ output (refusal 9 0) output
+    unfolding carryRun
+    says-9 n = refuses b H′ output (whole-is ∙ gate-closes 9 _ _ (sym (far T H′ e) ∙ fails n))
+
+    pub says-6 : {m : ℕ} → not t ≡ false → m ≡ totalJobs (ρ .tasks) H′ → not (leb m mostJobs) ≡ true → Carries b H′ output (refusal 6 0) output
+    unfolding carryRun
+    says-6 n count l =
+        refuses b H′ output
+        (whole-is ∙ gate-opens 9 _ _ _ (sym (far T H′ e) ∙ holds n) (gate-closes 6 _ _ (ap (λ k. leb k mostJobs) (sym count) ∙ fails l)))
+
+  -- by the run's own answer, and the size of the file that is to be written
+  module _ {m : ℕ} (R : Reached ρ H′ m) where
+    abbrev out : List ℕ
+    out = bytes (carried ρ H′)
+
+    few : totalJobs (ρ .tasks) H′ ≤ mostJobs
+    few = omega (arith, R .count, R .few)
+
+    past-6 : {o : Carried} → gateCarry 10 (leb (verdict ρ .answer) 2) (gateCarry 11 (leb (length out) (length output)) (carriedFile out)) ≡ o
+        → carry b H′ (length output) ≡ o
+    unfolding carryRun
+    past-6 q =
+        whole-is
+        ∙ gate-opens 9 _ _ _ (says-true (says-and (says-leb (ρ .setting .horizon) H′) (says-leb H′ mostHorizon)) (R .longer, R .most))
+        (gate-opens 6 _ _ _ (says-true (says-leb (totalJobs (ρ .tasks) H′) mostJobs) few) q)
+
+    pub says-10 : {t : Bool} {f : Five} → t ≡ leb (f .answer) 2 → f ≡ verdict ρ → not t ≡ true → Carries b H′ output (refusal 10 0) output
+    says-10 e v n = refuses b H′ output (past-6 (gate-closes 10 _ _ (sym (accepted ρ e v) ∙ fails n)))
+
+    module _ (O : Obeys ρ) {s : ℕ} (size : s ≡ sizeOf (h .tasks) m) where
+      past-10 : {o : Carried} → gateCarry 11 (leb (length out) (length output)) (carriedFile out) ≡ o → carry b H′ (length output) ≡ o
+      past-10 q = past-6 (gate-opens 10 _ _ _ (says-true (says-leb (verdict ρ .answer) 2) (accepted-exactly-if-obeyed ρ .1 O)) q)
+
+      is-size : length out ≡ s
+      is-size =
+          let n = carried-size ρ H′ (tells-limits T) O (R .longer) (R .most) few in
+          omega (arith, existing-total ρ H′, R .count, tells-task-count T)
+
+      is-room : leb (length out) (length output) ≡ leb s (length output)
+      is-room = ap (λ k. leb k (length output)) is-size
+
+      pub says-11 : not (leb s (length output)) ≡ true → Carries b H′ output (refusal 11 0) output
+      says-11 n = refuses b H′ output (past-10 (gate-closes 11 _ _ (is-room ∙ fails n)))
+
+      pub says-5 : {after : List ℕ} → not (leb s (length output)) ≡ false → after ≡ front out output → Carries b H′ output (carriedTo s) after
+      unfolding carriedFile
+      says-5 {after} n w = tells b H′ output after (past-10 (gate-opens 11 _ _ _ (is-room ∙ holds n) refl)) (ap carriedTo (sym is-size)) w

@@ -1,0 +1,3 @@
+pub mod EachAnswer
+pub mod JobsTold
+pub mod Once

@@ -1,0 +1,2 @@
+pub mod WhoseRows
+pub mod Carriable

@@ -1,0 +1,99 @@
+// What stands of each job at H: records that start before H are kept, other old records keep their release, new jobs are released at
+// jP + O. A job that has not begun has start, end and core 0.
+use base::Found;
+use model::Record;
+use openfile::Head;
+use reader::is_of;
+use reader::least_record;
+use runfile::record_at;
+use runfile::task_at;
+use table::JOB;
+use table::RELEASE;
+use table::put_row;
+ghost use mathlib.Core.Path.{_≡_};
+ghost use Prim.Native.Nat.{ℕ, _+_, _*_, _<_};
+ghost use lib.ListN.{length};
+ghost use Rattle.base.specs.Find.{seen};
+ghost use Rattle.model.specs.Carry.{opening, atH, unbegun, placeOf};
+ghost use Rattle.model.specs.File.{taskAt, tasksPlace, taskSize};
+ghost use Rattle.model.specs.Model.{Run, arrival};
+ghost use Rattle.model.specs.Rules.{Jobs};
+ghost use Rattle.openfile.specs.Head.{Tells};
+ghost use Rattle.standing.specs.Carriable.{Carriable};
+ghost use Rattle.table.specs.Table.{Lent, recorded};
+
+// The record of a job of a run that obeys rule 1: it is tried at a place first, and a job that does not exist at H has none.
+fn record_near(file: &[u8], head: Head, near: u32, i: u32, j: u32) -> Found
+    ensures { λ r. ⌜ ((ρ : Run) → Tells (now (file .entry)) head ρ → Jobs ρ → seen r ≡ placeOf ρ (i, j)) ⌝ }
+{
+    if near < head.records {
+        if is_of(record_at(file, head.records_at, near), i, j) {
+            return Found::At(near);
+        }
+    }
+    let setting = head.setting;
+    let task = task_at(file, i);
+    if task.jobs(setting.horizon) <= j {
+        return Found::Nothing;
+    }
+    least_record(file, head.records_at, head.records, i, j)
+}
+
+// A job that has not begun.
+fn waiting(i: u32, j: u32, release: u32) -> Record
+    ensures { λ r. ⌜ r ≡ unbegun (i, j) release ⌝ }
+{
+    Record {
+        task: i,
+        job: j,
+        release: release,
+        start: 0,
+        end: 0,
+        core: 0,
+    }
+}
+
+// What stands of a job at H, given its record.
+fn standing(file: &[u8], head: Head, found: Found, i: u32, j: u32) -> Record
+    requires { ⌜ arrival (taskAt (now file) (tasksPlace + 4 + taskSize * i)) j < 4294967296 ⌝ }
+    ensures { λ r. ⌜ ((ρ : Run) → Tells (now (file .entry)) head ρ → seen found ≡ placeOf ρ (i, j) → i < length (ρ .tasks) → r ≡ atH ρ (i, j)) ⌝ }
+{
+    let Found::At(k) = found else {
+        let task = task_at(file, i);
+        return waiting(i, j, task.arrival(j) as u32);
+    };
+    let setting = head.setting;
+    let x = record_at(file, head.records_at, k);
+    if setting.horizon <= x.start {
+        return waiting(i, j, x.release);
+    }
+    x
+}
+
+// What stands at H of each of the m jobs whose tasks and numbers are there.
+pub(crate) fn open_records(file: &[u8], head: Head, t: &mut [u32], m: usize)
+    requires { ⌜ ((ρ : Run) × (H′ : ℕ) × Carriable (now file) head H′ m ρ × Lent 2 (opening ρ H′) (now t) m) ⌝ }
+    ensures { λ _. ⌜ ((ρ : Run) (H′ : ℕ) → Carriable (now (file .entry)) head H′ m ρ → Lent 2 (opening ρ H′) (now (t .entry)) m
+        → Lent recorded (opening ρ H′) (now (t .exit)) m) ⌝ }
+{
+    let mut near = 0;
+    let mut k = 0;
+    while k < m {
+        let i = t[k];
+        let j = t[JOB * m + k];
+        let found = record_near(file, head, near, i, j);
+        let x = standing(file, head, found, i, j);
+        if let Found::At(place) = found {
+            near = place + 1;
+        }
+        put_row(
+            t,
+            m,
+            k,
+            RELEASE,
+            [x.release, x.start, x.end, x.core, 0, 0, 0],
+            4,
+        );
+        k += 1;
+    }
+}

@@ -1,0 +1,21 @@
+-- The choice, of the columns of a table. Assumes nothing.
+use borrow.Author.Needs.{needs}
+use Rattle.starts.proofs.next_job.Statement.{statement}
+use Rattle.starts.proofs.next_job.Tie as tie
+
+returns : tie.Need-returns
+returns c =
+    let rank = c .before .column3 .ensures in
+    let ready = c .before .before .column2 .ensures in
+    let core = c .before .before .before .column .ensures in
+    rw (core .1, core .0, ready .0, rank .0) at (c .choose .ensures)
+
+pub next-job-spec : {M : Type 1} → statement M
+next-job-spec =
+    tie.close
+    (tie.spec
+    (λ c κs. search needs)
+    (λ c κs. search needs)
+    (λ c κs. search needs)
+    (λ c κs. search needs)
+    returns)
