@@ -1,31 +1,26 @@
 // What is said of a file.
-use checker::check_file;
-use judging::refusal_in;
+use checkfile::check_file;
 use libc::STDOUT_FILENO;
 use model::Answer;
+use openfile::Opened;
+use openfile::open_file;
 use text::line_of;
-use wire::Numbers;
-use wire::numbers_of;
-
-pub(crate) fn print_numbers(n: Numbers) {
-    let line = line_of(n);
-    let text = line.text;
-    let size = line.size;
-    io::write_all(STDOUT_FILENO, &text[..size]);
-}
 
 pub(crate) fn print_answer(told: Answer) {
-    print_numbers(numbers_of(told));
+    let line = line_of(told);
+    let text = line.text;
+    let size = line.size;
+    io::write_all(STDOUT_FILENO, &text[0..size]);
 }
 
 // The refusal, or 'fine'.
 pub(crate) fn refusal_case(file: &[u8]) {
-    let refusal = refusal_in(file);
-    if refusal.number == 0 {
+    let opened = open_file(file);
+    let Opened::Refused(number, task) = opened else {
         io::write_all(STDOUT_FILENO, b"fine\n");
         return;
-    }
-    print_answer(Answer::Refused(refusal.number, refusal.task));
+    };
+    print_answer(Answer::Refused(number, task));
 }
 
 pub(crate) fn check_case(file: &[u8]) {

@@ -1,12 +1,11 @@
 // The forms over lent memory: a record and a shown job as the bytes of a file, and the tasks of a file in a lent list.
-use crate::checking::print_numbers;
-use held::record_of;
-use lent::planned;
-use lent::tasks_over;
 use libc::STDOUT_FILENO;
 use model::Task;
+use model::Tasks;
+use reader::record_of;
 use shown::shown;
-use wire::Numbers;
+use tasklist::planned;
+use tasklist::tasks_over;
 
 // A part's bytes as they are, and a line feed.
 fn print_part(part: &[u8]) {
@@ -24,14 +23,26 @@ pub(crate) fn shown_case<'a>(recorded: &'a [u8], carried: &'a [u8], task: u32, j
     print_part(shown(recorded, carried, task, job));
 }
 
+// A number, and what stands after it in its line.
+fn print_number(v: u64, after: &[u8]) {
+    io::print_decimal(STDOUT_FILENO, v);
+    io::write_all(STDOUT_FILENO, after);
+}
+
 fn print_task(task: Task) {
-    print_numbers(Numbers {
-        answer: task.period,
-        code: task.least,
-        x: task.greatest,
-        y: task.offset,
-        z: task.jitter,
-    });
+    print_number(task.period as u64, b" ");
+    print_number(task.least as u64, b" ");
+    print_number(task.greatest as u64, b" ");
+    print_number(task.offset as u64, b" ");
+    print_number(task.jitter as u64, b"\n");
+}
+
+fn print_tasks(tasks: Tasks) {
+    let mut i = 0;
+    while i < Task::MOST as usize {
+        print_task(tasks.list[i]);
+        i += 1;
+    }
 }
 
 // A task of five different numbers, which no case has.
@@ -43,22 +54,12 @@ const MARK: Task = Task {
     jitter: 75,
 };
 
-// What is decided of a list with room for so many tasks: the refusal and the count. Then all of a list with room for every task, in
-// which each entry was that one before the file was decoded into it.
+// What is decided of a list with room for so many tasks: the refusal's number and task, and how many are stored. Then all of a list
+// with room for every task, in which each entry was that one before the file was decoded into it.
 pub(crate) fn tasks_case(file: &[u8], room: u32) {
     let plan = planned(file, room as usize);
-    let count = plan.count as u32;
-    print_numbers(Numbers {
-        answer: plan.number,
-        code: plan.task,
-        x: count,
-        y: 0,
-        z: 0,
-    });
-    let tasks = tasks_over(file, MARK);
-    let mut i = 0;
-    while i < 32 {
-        print_task(tasks.list[i]);
-        i += 1;
-    }
+    print_number(plan.number as u64, b" ");
+    print_number(plan.task as u64, b" ");
+    print_number(plan.count as u64, b"\n");
+    print_tasks(tasks_over(file, MARK));
 }

@@ -3,7 +3,7 @@
 use libc::STDIN_FILENO;
 use runfile::num_at;
 
-mod carrying;
+mod carries;
 mod checking;
 mod forms;
 
@@ -11,7 +11,7 @@ fn run_case<'a>(kind: u32, x: u32, y: u32, one: &'a [u8], other: &'a [u8]) {
     match kind {
         0 => checking::refusal_case(one),
         1 => checking::check_case(one),
-        2 => carrying::carry_case(one, x, y),
+        2 => carries::carry_case(one, x, y),
         3 => forms::record_case(one, x),
         4 => forms::tasks_case(one, x),
         _ => forms::shown_case(one, other, x, y),
@@ -21,14 +21,14 @@ fn run_case<'a>(kind: u32, x: u32, y: u32, one: &'a [u8], other: &'a [u8]) {
 // A case whose two files stand one after the other.
 fn split_case(kind: u32, x: u32, y: u32, length: usize, both: &[u8]) {
     if length <= both.len() {
-        run_case(kind, x, y, &both[..length], &both[length..]);
+        run_case(kind, x, y, &both[0..length], &both[length..]);
     }
 }
 
 // Reads the two files of a case into a space that has room for both, and runs it.
 fn read_case(kind: u32, x: u32, y: u32, length: usize, space: &mut [u8]) {
     let n = io::read_full(STDIN_FILENO, space);
-    split_case(kind, x, y, length, &space[..n]);
+    split_case(kind, x, y, length, &space[0..n]);
 }
 
 // One case; false where there is none.
@@ -48,7 +48,7 @@ fn next_case() -> bool {
         num_at(&head, 4),
         num_at(&head, 8),
         one,
-        &mut space[..one + other],
+        &mut space[0..one + other],
     );
     true
 }

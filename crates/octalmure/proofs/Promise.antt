@@ -24,15 +24,15 @@ use Rattle.model.specs.Calls.{answerSize, front, fiveIn, fileIn, checkCall, car
 use Rattle.model.specs.Widen.{Wider, withTasks}
 use Rattle.model.specs.Compute.Verdict.{verdict, check}
 use Rattle.model.proofs.Calls.{check-short, carry-short, rest-kept}
-use Rattle.model.proofs.Slices.{check-told}
+use Rattle.model.proofs.FiveFit.{check-told}
 use Rattle.model.proofs.Refusals.{check-refuses, judged, accepted-reads}
 use Rattle.model.proofs.Verdict.{verdict-iff}
 use Rattle.model.proofs.Demand1.{every-file-answered}
 use Rattle.model.proofs.Demand2.{accepted-exactly-if-obeyed, lowest-broken-rule-named, broken-rule-named, late-jobs-counted}
-use Rattle.carrying.proofs.Refused.{carry-refuses, every-carry-answered}
-use Rattle.carrying.proofs.Call.{Carriable, carriable, refused-writes-nothing, carries-exactly, carried-out, carry-told, short-or-long, file-accepted, file-keeps, file-late, file-shows}
-use Rattle.carrying.proofs.Widen.{widened-same-late}
-use Rattle.carrying.proofs.WidenFile.{widened-file}
+use Rattle.carrytheory.proofs.CarryRefusals.{carry-refuses, every-carry-answered}
+use Rattle.carrytheory.proofs.CarryForHost.{Carriable, carriable, refused-writes-nothing, carries-exactly, carried-out, carry-told, short-or-long, file-accepted, file-keeps, file-late, file-shows}
+use Rattle.carrytheory.proofs.WidenedRun.{widened-same-late}
+use Rattle.carrytheory.proofs.WidenedFile.{widened-file}
 use Rattle.octalmure.proofs.check.octalmure_check.Kinds as check-kinds
 use Rattle.octalmure.proofs.check.octalmure_check.Reads as check-contract
 use Rattle.octalmure.proofs.carry.octalmure_carry.Kinds as carry-kinds

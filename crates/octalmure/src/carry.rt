@@ -1,5 +1,6 @@
 // The carry that a C host calls.
-use carrier::carry_file;
+use carryfile::carry_file;
+use wire::ANSWER_SIZE;
 use wire::write_answer;
 ghost use mathlib.Core.Path.{_≡_};
 ghost use Rattle.model.specs.Calls.{carryCall};
@@ -17,7 +18,7 @@ pub extern "C" fn octalmure_carry(
         × (now (output .exit) ≡ carryCall (now (file .entry)) horizon (now (output .entry)) (now (answer .entry)) .output)
         × (now (answer .exit) ≡ carryCall (now (file .entry)) horizon (now (output .entry)) (now (answer .entry)) .answer) ⌝ }
 {
-    if answer.len() < 20 {
+    if answer.len() < ANSWER_SIZE {
         return 4;
     }
     let told = carry_file(file, horizon, output);

@@ -1,5 +1,6 @@
 // The check that a C host calls.
-use checker::check_file;
+use checkfile::check_file;
+use wire::ANSWER_SIZE;
 use wire::write_answer;
 ghost use mathlib.Core.Path.{_≡_};
 ghost use Rattle.model.specs.Calls.{checkCall};
@@ -10,7 +11,7 @@ pub extern "C" fn octalmure_check(file: &[u8], answer: &mut [u8]) -> u32
     ensures { λ r. ⌜ (r ≡ checkCall (now (file .entry)) (now (answer .entry)) .returns)
         × (now (answer .exit) ≡ checkCall (now (file .entry)) (now (answer .entry)) .answer) ⌝ }
 {
-    if answer.len() < 20 {
+    if answer.len() < ANSWER_SIZE {
         return 4;
     }
     let told = check_file(file);

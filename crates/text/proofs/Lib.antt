@@ -1,4 +1,4 @@
-pub mod Pasting
+pub mod Paste
 pub mod Lined
 pub mod Decimal
 pub mod Once

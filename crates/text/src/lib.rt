@@ -1,9 +1,13 @@
 // The five numbers of an answer as a line of text.
+use model::Answer;
 use wire::Numbers;
+use wire::numbers_of;
 ghost use mathlib.Core.Path.{_≡_};
 ghost use mathlib.Core.List.{[], _∷_, _++_};
 ghost use Prim.Native.Nat.{_+_, _≤_, _<_};
 ghost use lib.ListN.{length};
+ghost use Rattle.model.specs.Answers.{fiveOf};
+ghost use Rattle.model.specs.Calls.{numbers};
 ghost use Rattle.model.specs.Report.{decimal, line};
 ghost use Rattle.text.specs.Lined.{lined};
 ghost use Rattle.text.specs.Paste.{pasted, Wrote};
@@ -59,9 +63,10 @@ fn put_line(text: &mut [u8], n: Numbers) -> usize
 }
 
 // The line of an answer's five numbers.
-pub fn line_of(n: Numbers) -> Line
-    ensures { λ r. ⌜ (r ≡ lined (line (n .answer ∷ n .code ∷ n .x ∷ n .y ∷ n .z ∷ []))) × (r .size ≤ 64) ⌝ }
+pub fn line_of(a: Answer) -> Line
+    ensures { λ r. ⌜ (r ≡ lined (line (numbers (fiveOf a)))) × (r .size ≤ length (r .text)) ⌝ }
 {
+    let n = numbers_of(a);
     let mut text = [0u8; 64];
     let size = put_line(&mut text, n);
     Line {

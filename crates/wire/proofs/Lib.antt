@@ -1,2 +1,2 @@
-pub mod Putting
+pub mod Put
 pub mod Once

@@ -5,7 +5,7 @@ ghost use mathlib.Core.List.{[], _∷_};
 ghost use Prim.Native.Nat.{_+_, _≤_};
 ghost use lib.ListN.{length};
 ghost use Rattle.model.specs.Answers.{fiveOf};
-ghost use Rattle.model.specs.Calls.{numbers, written};
+ghost use Rattle.model.specs.Calls.{answerSize, numbers, written};
 ghost use Rattle.wire.specs.Put.{put};
 
 // Writes a number at a place: four bytes, low byte first. Every other byte keeps its value.
@@ -77,9 +77,12 @@ pub fn numbers_of(a: Answer) -> Numbers
     }
 }
 
+// How many bytes the five numbers of an answer have.
+pub const ANSWER_SIZE: usize = 20;
+
 // Writes an answer's five numbers into the first 20 bytes of a slice, and returns the first of them.
 pub fn write_answer(a: Answer, answer: &mut [u8]) -> u32
-    requires { ⌜ 20 ≤ length (now answer) ⌝ }
+    requires { ⌜ answerSize ≤ length (now answer) ⌝ }
     ensures { λ r. ⌜ (r ≡ fiveOf a .answer) × (now (answer .exit) ≡ written (fiveOf a) (now (answer .entry))) ⌝ }
 {
     let n = numbers_of(a);

@@ -1,6 +1,6 @@
 use borrow.Author.Needs.{needs}
 use native.Mathlib.Omega.{arith}
-use Rattle.text.proofs.Pasting.{wrote-more}
+use Rattle.text.proofs.Paste.{wrote-more}
 use Rattle.text.proofs.Decimal.{length-decimal}
 use Rattle.text.proofs.put_number.Statement.{statement}
 use Rattle.text.proofs.put_number.Tie as tie

@@ -1,7 +1,7 @@
 use borrow.Author.Needs.{needs}
 use native.Mathlib.Omega.{arith}
 use lib.ListN.{length-set}
-use Rattle.wire.proofs.Putting.{put-sets}
+use Rattle.wire.proofs.Put.{put-sets}
 use Rattle.wire.proofs.put_u32.Statement.{statement}
 use Rattle.wire.proofs.put_u32.Tie as tie
 use Rattle.wire.proofs.put_u32.Reads as reads

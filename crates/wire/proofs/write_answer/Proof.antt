@@ -4,7 +4,7 @@ use lib.ListN.{getD}
 use denote.Ref.{now}
 use Rattle.model.specs.Answers.{fiveOf}
 use Rattle.model.specs.Calls.{numbers}
-use Rattle.wire.proofs.Putting.{five-put}
+use Rattle.wire.proofs.Put.{five-put}
 use Rattle.wire.proofs.write_answer.Statement.{statement}
 use Rattle.wire.proofs.write_answer.Tie as tie
 

@@ -1,7 +1,7 @@
 // What a carry says, and what is said of the file that it writes.
 use crate::checking::check_case;
 use crate::checking::print_answer;
-use carrier::carry_file;
+use carryfile::carry_file;
 use model::Answer;
 
 // Carries with so much room and, where a file is written, checks it.
@@ -11,7 +11,7 @@ fn carry_into(file: &[u8], horizon: u32, output: &mut [u8]) {
     if let Answer::Carried(bytes) = told {
         let n = bytes as usize;
         if n <= output.len() {
-            check_case(&output[..n]);
+            check_case(&output[0..n]);
         }
     }
 }
@@ -22,5 +22,5 @@ pub(crate) fn carry_case(file: &[u8], horizon: u32, room: u32) {
         return;
     }
     let mut output = [0u8; 16384];
-    carry_into(file, horizon, &mut output[..n]);
+    carry_into(file, horizon, &mut output[0..n]);
 }

@@ -1,10 +1,10 @@
 // The report's line for the bytes that were read, and how many are.
-use checker::check_file;
+use checkfile::check_file;
 use text::Line;
 use text::line_of;
-use wire::numbers_of;
 ghost use mathlib.Core.Path.{_≡_};
 ghost use Prim.Native.Nat.{_≤_};
+ghost use lib.ListN.{length};
 ghost use Rattle.model.specs.Report.{mostRead, report};
 ghost use Rattle.text.specs.Lined.{lined};
 
@@ -19,8 +19,8 @@ pub fn most_read() -> usize
 
 // The line.
 pub fn report_line(input: &[u8]) -> Line
-    ensures { λ r. ⌜ (r ≡ lined (report (now (input .entry)))) × (r .size ≤ 64) ⌝ }
+    ensures { λ r. ⌜ (r ≡ lined (report (now (input .entry)))) × (r .size ≤ length (r .text)) ⌝ }
 {
     let told = check_file(input);
-    line_of(numbers_of(told))
+    line_of(told)
 }
