@@ -14,7 +14,7 @@ CFLAGS ?= -O2
 WARNINGS = -Wall -Wextra -Wpedantic -Wconversion -Wshadow -Werror
 
 ifeq ($(origin CC),default)
-CC = $(if $(filter x86_64,$(shell uname -m)),cc,x86_64-linux-gnu-gcc)
+CC = $(shell tools/compiler cc)
 endif
 
 ARCHIVE = target/staticlib/liboctalmure.a

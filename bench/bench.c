@@ -7,6 +7,7 @@
 #include <string.h>
 #include <time.h>
 
+#include "../tests/independent/entries.h"
 #include "../tests/independent/oracle.h"
 #include "files.h"
 
@@ -149,7 +150,7 @@ static void time_permitted(Bench *bench, uint32_t records, uint32_t cores) {
 static void time_broken(Bench *bench, uint32_t records, uint32_t cores) {
     static Case c;
     char name[40];
-    for (uint32_t rule = 1; rule <= 8; rule++) {
+    for (uint32_t rule = 1; rule <= RULES; rule++) {
         snprintf(name, sizeof name, "rule %" PRIu32 ", front", rule);
         broken_file(records, cores, rule, AT_THE_FRONT, &c.file);
         time_check(bench, name, records, cores, &c);
@@ -157,7 +158,8 @@ static void time_broken(Bench *bench, uint32_t records, uint32_t cores) {
         broken_file(records, cores, rule, AT_THE_BACK, &c.file);
         time_check(bench, name, records, cores, &c);
     }
-    time_carry(bench, "rule 8, back, to H", c.file.horizon, records, cores, &c);
+    snprintf(name, sizeof name, "rule %u, back, to H", RULES);
+    time_carry(bench, name, c.file.horizon, records, cores, &c);
 }
 
 static void time_small(Bench *bench) {

@@ -4,11 +4,11 @@
 #include <stdio.h>
 
 static void say_late_count(uint32_t late) {
-    printf("Accepted: this run obeys all eight rules. %" PRIu32 " of its records %s late.\n", late, late == 1 ? "is" : "are");
+    printf("Accepted: this run obeys all rules. %" PRIu32 " of its records %s late.\n", late, late == 1 ? "is" : "are");
 }
 
 static void say_none_late(void) {
-    printf("Accepted: this run obeys all eight rules, and none of its jobs is late.\n");
+    printf("Accepted: this run obeys all rules, and none of its jobs is late.\n");
     printf("That says nothing about other runs of these tasks.\n");
 }
 
@@ -46,7 +46,7 @@ static void say_place(uint32_t rule, const uint32_t place[3]) {
 static void say_broken(const struct octalmure_answer *answer) {
     printf("Not permitted: rule %" PRIu32 " (%s) is broken.\n", answer->code, octalmure_rule_text(answer->code));
     say_place(answer->code, answer->place);
-    if (answer->code < OCTALMURE_RULE_NO_IDLING) {
+    if (answer->code + 1 < OCTALMURE_RULES_END) {
         printf("Rules after %" PRIu32 " may be broken too; the lowest is named.\n", answer->code);
     }
 }

@@ -53,7 +53,8 @@ enum octalmure_rule {
     OCTALMURE_RULE_CORE = 5,       /* record */
     OCTALMURE_RULE_NO_OVERLAP = 6, /* record a, record b; a < b */
     OCTALMURE_RULE_ORDER = 7,      /* record a, record b; a started first */
-    OCTALMURE_RULE_NO_IDLING = 8   /* record, instant, core */
+    OCTALMURE_RULE_NO_IDLING = 8,  /* record, instant, core */
+    OCTALMURE_RULES_END            /* no rule: the number after the last one */
 };
 
 /* Codes of OCTALMURE_REFUSED. A file is judged from the front, and the first fault met is the answer. 9 to 11 are for carrying. */

@@ -54,19 +54,19 @@ for file in DAMAGED:
 
 # The tasks: refusal, task and count with so much space; and then a list of 32, in which entries past the last task keep their values
 # and a refusal changes none.
-tasks(one, 4, (0, 0, 4, 0, 0), *S)
-tasks(one, 32, (0, 0, 4, 0, 0), *S)
-tasks(one, 3, (11, 0, 0, 0, 0), *S)
-tasks(one, 0, (11, 0, 0, 0, 0), *S)
-tasks(nine, 1, (0, 0, 1, 0, 0), UNIT)
+tasks(one, 4, (0, 0, 4), *S)
+tasks(one, 32, (0, 0, 4), *S)
+tasks(one, 3, (11, 0, 0), *S)
+tasks(one, 0, (11, 0, 0), *S)
+tasks(nine, 1, (0, 0, 1), UNIT)
 MANY = [(1000 + i, 1 + i, 100 + i, i, 3 * i) for i in range(32)]
-tasks(run(1, 1, MANY, []), 32, (0, 0, 32, 0, 0), *MANY)
-tasks(run(1, 1, MANY, []), 31, (11, 0, 0, 0, 0), *MANY)
+tasks(run(1, 1, MANY, []), 32, (0, 0, 32), *MANY)
+tasks(run(1, 1, MANY, []), 31, (11, 0, 0), *MANY)
 # the file's own refusals come first
-tasks(b"", 0, (1, 0, 0, 0, 0))
-tasks(run(*C10), 0, (6, 0, 0, 0, 0))
-tasks(one + b"\0", 0, (8, 0, 0, 0, 0))
-tasks(run(1, 1, MANY[:7] + [(0, 1, 1, 0, 0)], []), 0, (5, 7, 0, 0, 0))
+tasks(b"", 0, (1, 0, 0))
+tasks(run(*C10), 0, (6, 0, 0))
+tasks(one + b"\0", 0, (8, 0, 0))
+tasks(run(1, 1, MANY[:7] + [(0, 1, 1, 0, 0)], []), 0, (5, 7, 0))
 
 # The shown job: from the recorded file when it began before H. C2 carried to 20 is C1.
 for r in C1[3]:

@@ -286,7 +286,7 @@ static void draw_empty_set(Run *run, Chance *chance) {
 
 static void spoiled_case(Run *run, uint32_t option, Chance *chance) {
     if (option < 78) {
-        spoil_rule(run, between(chance, 1, 8), chance);
+        spoil_rule(run, between(chance, 1, RULES), chance);
     } else if (option < 87) {
         for (uint32_t left = between(chance, 1, 3); left > 0; left--) {
             spoil_number(run, chance);

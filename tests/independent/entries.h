@@ -4,6 +4,9 @@
 
 #include <stdint.h>
 
+/* How many rules and refusals there are; both are numbered from 1. */
+enum { RULES = 8, REFUSALS = 11 };
+
 enum { MOST_CORES = 16, MOST_TASKS = 32, MOST_JOBS = 512, MOST_TICKS = 1000000 };
 
 typedef struct {

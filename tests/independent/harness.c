@@ -8,6 +8,7 @@
 #include <string.h>
 
 #include "cases.h"
+#include "entries.h"
 #include "literal.h"
 #include "long.h"
 #include "oracle.h"
@@ -159,7 +160,7 @@ static const char *first_of(const char *a, const char *b) {
 /* ---- what was met ---- */
 
 typedef struct {
-    uint64_t answers[6], rules[9], refusals[12], short_slices;
+    uint64_t answers[6], rules[RULES + 1], refusals[REFUSALS + 1], short_slices;
 } Met;
 
 typedef struct {
@@ -172,8 +173,8 @@ static void meet(Met *met, const Call *call) {
         met->short_slices++;
     } else if (call->returned <= CARRIED) {
         met->answers[call->returned]++;
-        met->rules[call->returned == 3 ? call->numbers[1] % 9 : 0]++;
-        met->refusals[call->returned == REFUSED ? call->numbers[1] % 12 : 0]++;
+        met->rules[call->returned == 3 ? call->numbers[1] % (RULES + 1) : 0]++;
+        met->refusals[call->returned == REFUSED ? call->numbers[1] % (REFUSALS + 1) : 0]++;
     }
 }
 
@@ -188,8 +189,8 @@ static void print_counts(const char *what, const uint64_t *counts, uint32_t from
 static void print_met(const char *name, const Met *met) {
     printf("%s\n", name);
     print_counts("answers", met->answers, 0, 5);
-    print_counts("rules", met->rules, 1, 8);
-    print_counts("refusals", met->refusals, 1, 11);
+    print_counts("rules", met->rules, 1, RULES);
+    print_counts("refusals", met->refusals, 1, REFUSALS);
     printf("  short answer slices %" PRIu64 "\n", met->short_slices);
 }
 
@@ -206,8 +207,8 @@ static uint64_t never_met(const char *what, const uint64_t *check, const uint64_
 
 static uint64_t never_met_at_all(const Tally *tally) {
     const Met *check = &tally->check, *carry = &tally->carry;
-    return never_met("answer", check->answers, carry->answers, 0, 5) + never_met("rule", check->rules, carry->rules, 1, 8) +
-           never_met("refusal", check->refusals, carry->refusals, 1, 11);
+    return never_met("answer", check->answers, carry->answers, 0, 5) + never_met("rule", check->rules, carry->rules, 1, RULES) +
+           never_met("refusal", check->refusals, carry->refusals, 1, REFUSALS);
 }
 
 /* ---- the trial of a case ---- */

@@ -277,8 +277,8 @@ static void spoil_idling(Run *run, Chance *chance) {
 /* ---- */
 
 void spoil_rule(Run *run, uint32_t rule, Chance *chance) {
-    static void (*const spoil[])(Run *, Chance *) = {spoil_jobs, spoil_release, spoil_start, spoil_length,
-                                                     spoil_core, spoil_overlap, spoil_order, spoil_idling};
+    static void (*const spoil[RULES])(Run *, Chance *) = {spoil_jobs, spoil_release, spoil_start, spoil_length,
+                                                          spoil_core, spoil_overlap, spoil_order, spoil_idling};
     if (run->record_count > 0) {
         spoil[rule - 1](run, chance);
     } else {

@@ -1,4 +1,4 @@
-"""The public functions and the structs of the libraries, read from their sources; for tests/once and tests/contracts."""
+"""The functions and the structs of the libraries, read from their sources; for tests/once and tests/contracts."""
 import dataclasses
 import pathlib
 import re
@@ -14,6 +14,7 @@ class Function:
     module: str  # the path of its file below src/ with points between, and '' for lib.rt
     owner: str  # the type of a method, or ''
     name: str
+    public: bool  # other crates can call it, or a host
     exported: bool
     parameters: list  # of (name, type)
     result: str  # the type, or ''
@@ -69,13 +70,10 @@ def typed(text, owner):
 
 
 def functions_of(path, crate, module):
-    """Those that other crates can call, or a host."""
     text = code(path)
     owners = [(m.start(), closed(text, m.end() - 1), m[1]) for m in re.finditer(r"^impl(?:<[^>]*>)? (\w+)[^{]*\{", text, re.M)]
     for m in re.finditer(r'((?:#\[[^\]]*\]\s*)*)\b(pub\s+)?((?:const |unsafe |extern |"C" )*)fn (\w+)', text):
         exported = "extern" in m[3] or "no_mangle" in m[1]
-        if not m[2] and not exported:
-            continue
         owner = next((name for begin, end, name in owners if begin < m.start() < end), "")
         at = closed(text, m.end()) if text[m.end()] == "<" else m.end()
         end = closed(text, at)
@@ -86,7 +84,7 @@ def functions_of(path, crate, module):
             at = closed(text, clause.end() - 1)
             clauses[clause[1]].append(" ".join(text[clause.end() : at - 1].split()))
         contract = clauses["requires"], clauses["ensures"]
-        yield Function(path, crate, module, owner, m[4], exported, parameters, head[1] or "", *contract)
+        yield Function(path, crate, module, owner, m[4], bool(m[2]) or exported, exported, parameters, head[1] or "", *contract)
 
 
 def sources(root):
@@ -97,8 +95,12 @@ def sources(root):
             yield path, found.parts[-3], "" if path == found else module
 
 
-def public_functions():
+def functions():
     return [f for path, crate, module in sources("lib.rt") for f in functions_of(path, crate, module)]
+
+
+def public_functions():
+    return [f for f in functions() if f.public]
 
 
 def structs():
