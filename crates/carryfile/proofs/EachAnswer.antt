@@ -1,6 +1,6 @@
 -- What the carry of a file is, one law for each answer: the file's own refusals, 9, 6, 10, 11, and the file that is written.
 -- Assumes nothing.
-use Prim.Native.Nat.{ℕ, _≤_}
+use Prim.Native.Nat.{ℕ}
 use mathlib.Core.Path.{_≡_, refl, sym, _∙_, ap}
 use mathlib.Core.Bool.{Bool, true, false, not, _&&_, true≢false}
 use mathlib.Core.List.{List}
@@ -11,19 +11,21 @@ use Rattle.base.proofs.Test.{says-leb, says-and, says-true}
 use Rattle.carrytheory.proofs.CarryGates.{gate-opens, gate-closes}
 use Rattle.carrytheory.proofs.CarryRefusals.{refusedCarry}
 use Rattle.carrytheory.proofs.Demand3.{carried-size}
+use Rattle.model.specs.declared.task.Task.{Task}
 use Rattle.model.specs.Answers.{Five, refusal, carriedTo}
 use Rattle.model.specs.Calls.{front}
 use Rattle.model.specs.Carry.{Carried, carried, gateCarry, carriedFile, carryRun, carryOf, carry}
 use Rattle.model.specs.Compute.Verdict.{verdict}
 use Rattle.model.specs.File.{read, refused, bytes, sizeOf}
-use Rattle.model.specs.Model.{Run, mostHorizon, mostJobs, totalJobs}
+use Rattle.model.specs.Model.{Run, mostHorizon, mostJobs, totalJobs, existing}
 use Rattle.model.specs.Rules.{Obeys, rule1}
 use Rattle.model.proofs.Demand2.{accepted-exactly-if-obeyed}
 use Rattle.model.proofs.Jobs.{existing-total}
 use Rattle.openfile.specs.declared.head.Head.{Head}
-use Rattle.openfile.specs.Head.{Tells}
+use Rattle.openfile.specs.Head.{Tells, Leads}
 use Rattle.openfile.proofs.WholeOrRefused.{tells-limits, tells-setting, tells-task-count}
-use Rattle.standing.specs.Carriable.{Reached, Carriable}
+use Rattle.standing.specs.Carriable.{Reached}
+use Rattle.carryrun.specs.Writable.{Writable}
 use Rattle.carryfile.specs.ToldAndWritten.{Carries}
 
 -- what is told and written, of what the carry is
@@ -60,20 +62,27 @@ module _ (ρ : Run) {t : Bool} {f : Five} (e : t ≡ leb (f .answer) 2) (v : f �
   obeys n = accepted-exactly-if-obeyed ρ .0 (says-leb (verdict ρ .answer) 2 .sound (sym accepted ∙ holds n))
 
 module _ {b : List ℕ} {h : Head} {ρ : Run} (T : Tells b h ρ) where
-  pub carriable : {H′ m : ℕ} → Obeys ρ → Reached ρ H′ m → Carriable b h H′ m ρ
-  carriable O R = record { tells = T; jobs = O rule1; reached = R }
+  pub writable : {l : List Task} {H′ m : ℕ} (room : ℕ) {s : ℕ} → Leads ρ l → Obeys ρ → Reached ρ H′ → m ≡ length (existing ρ H′)
+      → s ≡ sizeOf (h .tasks) m → not (leb s room) ≡ false → Writable b h l H′ m room ρ
+  writable room {s} L O R count size n =
+      record {
+        obeys = O;
+        carriable = record { tells = T; tasks = L; jobs = O rule1; reached = R; count = count };
+        fits = rw size at (says-leb s room .sound (holds n));
+      }
 
   module _ (H′ : ℕ) {t : Bool} (e : t ≡ (leb (h .setting .horizon) H′ && leb H′ mostHorizon)) where
     far : t ≡ (leb (ρ .setting .horizon) H′ && leb H′ mostHorizon)
     far = e ∙ ap (λ σ. leb (σ .horizon) H′ && leb H′ mostHorizon) (tells-setting T)
 
-    pub reached : {m : ℕ} → not t ≡ false → m ≡ totalJobs (ρ .tasks) H′ → not (leb m mostJobs) ≡ false → Reached ρ H′ m
+    pub reached : {m : ℕ} → not t ≡ false → m ≡ totalJobs (ρ .tasks) H′ → not (leb m mostJobs) ≡ false → Reached ρ H′
     reached {m} n count l =
         let (longer, most) = says-and (says-leb (ρ .setting .horizon) H′) (says-leb H′ mostHorizon) .sound (sym far ∙ holds n) in
-        record { longer = longer; most = most; count = count; few = says-leb m mostJobs .sound (holds l) }
+        record { longer = longer; most = most; few = rw count at (says-leb m mostJobs .sound (holds l)) }
 
-pub fits : {s n : ℕ} (room : ℕ) → s ≡ n → not (leb s room) ≡ false → n ≤ room
-fits {s} room e n = rw e at (says-leb s room .sound (holds n))
+-- the jobs that are counted are those that exist
+pub counted : (ρ : Run) (H′ : ℕ) {m : ℕ} → m ≡ totalJobs (ρ .tasks) H′ → m ≡ length (existing ρ H′)
+counted ρ H′ e = e ∙ sym (existing-total ρ H′)
 
 -- What the carry is then
 -- ----------------------
@@ -95,12 +104,9 @@ module _ {b : List ℕ} {h : Head} {ρ : Run} (T : Tells b h ρ) (H′ : ℕ) (o
         (whole-is ∙ gate-opens 9 _ _ _ (sym (far T H′ e) ∙ holds n) (gate-closes 6 _ _ (ap (λ k. leb k mostJobs) (sym count) ∙ fails l)))
 
   -- by the run's own answer, and the size of the file that is to be written
-  module _ {m : ℕ} (R : Reached ρ H′ m) where
+  module _ (R : Reached ρ H′) where
     abbrev out : List ℕ
     out = bytes (carried ρ H′)
-
-    few : totalJobs (ρ .tasks) H′ ≤ mostJobs
-    few = omega (arith, R .count, R .few)
 
     past-6 : {o : Carried} → gateCarry 10 (leb (verdict ρ .answer) 2) (gateCarry 11 (leb (length out) (length output)) (carriedFile out)) ≡ o
         → carry b H′ (length output) ≡ o
@@ -108,19 +114,19 @@ module _ {b : List ℕ} {h : Head} {ρ : Run} (T : Tells b h ρ) (H′ : ℕ) (o
     past-6 q =
         whole-is
         ∙ gate-opens 9 _ _ _ (says-true (says-and (says-leb (ρ .setting .horizon) H′) (says-leb H′ mostHorizon)) (R .longer, R .most))
-        (gate-opens 6 _ _ _ (says-true (says-leb (totalJobs (ρ .tasks) H′) mostJobs) few) q)
+        (gate-opens 6 _ _ _ (says-true (says-leb (totalJobs (ρ .tasks) H′) mostJobs) (R .few)) q)
 
     pub says-10 : {t : Bool} {f : Five} → t ≡ leb (f .answer) 2 → f ≡ verdict ρ → not t ≡ true → Carries b H′ output (refusal 10 0) output
     says-10 e v n = refuses b H′ output (past-6 (gate-closes 10 _ _ (sym (accepted ρ e v) ∙ fails n)))
 
-    module _ (O : Obeys ρ) {s : ℕ} (size : s ≡ sizeOf (h .tasks) m) where
+    module _ (O : Obeys ρ) {m : ℕ} (count : m ≡ length (existing ρ H′)) {s : ℕ} (size : s ≡ sizeOf (h .tasks) m) where
       past-10 : {o : Carried} → gateCarry 11 (leb (length out) (length output)) (carriedFile out) ≡ o → carry b H′ (length output) ≡ o
       past-10 q = past-6 (gate-opens 10 _ _ _ (says-true (says-leb (verdict ρ .answer) 2) (accepted-exactly-if-obeyed ρ .1 O)) q)
 
       is-size : length out ≡ s
       is-size =
-          let n = carried-size ρ H′ (tells-limits T) O (R .longer) (R .most) few in
-          omega (arith, existing-total ρ H′, R .count, tells-task-count T)
+          let n = carried-size ρ H′ (tells-limits T) O (R .longer) (R .most) (R .few) in
+          omega (arith, count, tells-task-count T)
 
       is-room : leb (length out) (length output) ≡ leb s (length output)
       is-room = ap (λ k. leb k (length output)) is-size

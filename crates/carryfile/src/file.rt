@@ -9,12 +9,14 @@ use openfile::Tally;
 use openfile::open_file;
 use openfile::tally_tasks;
 use runfile::size_of;
+use tasklist::tasks_of;
 use verdict::judge_run;
 ghost use mathlib.Core.Bool.{_&&_};
 ghost use mathlib.Core.Path.{_≡_};
 ghost use lib.Dec.{leb};
+ghost use lib.ListN.{length};
 ghost use Rattle.model.specs.Answers.{fiveOf};
-ghost use Rattle.model.specs.Model.{Run, mostHorizon, totalJobs};
+ghost use Rattle.model.specs.Model.{Run, mostHorizon, totalJobs, existing};
 ghost use Rattle.openfile.specs.Head.{Tells};
 ghost use Rattle.standing.specs.Carriable.{Reached};
 ghost use Rattle.carryfile.specs.ToldAndWritten.{Carries};
@@ -35,12 +37,13 @@ fn accepts(a: Answer) -> bool
 
 // The carry of a file to a horizon within the limits at which it has m jobs: 10, 11, or it is written.
 fn carry_to(file: &[u8], head: Head, horizon: u32, m: u32, output: &mut [u8]) -> Answer
-    requires { ⌜ ((ρ : Run) × Tells (now file) head ρ × Reached ρ horizon m) ⌝ }
-    ensures { λ r. ⌜ ((ρ : Run) → Tells (now (file .entry)) head ρ → Reached ρ horizon m
+    requires { ⌜ ((ρ : Run) × Tells (now file) head ρ × Reached ρ horizon × (m ≡ length (existing ρ horizon))) ⌝ }
+    ensures { λ r. ⌜ ((ρ : Run) → Tells (now (file .entry)) head ρ → Reached ρ horizon → m ≡ length (existing ρ horizon)
         → Carries (now (file .entry)) horizon (now (output .entry)) (fiveOf r) (now (output .exit))) ⌝ }
 {
     let size = size_of(head.tasks, m);
-    let accepted = accepts(judge_run(file, head));
+    let tasks = tasks_of(file, head);
+    let accepted = accepts(judge_run(file, head, tasks));
     let fits = size <= output.len();
     if !accepted {
         return Answer::Refused(10, 0);
@@ -48,7 +51,7 @@ fn carry_to(file: &[u8], head: Head, horizon: u32, m: u32, output: &mut [u8]) ->
     if !fits {
         return Answer::Refused(11, 0);
     }
-    write_carry(file, head, horizon, m as usize, output);
+    write_carry(file, head, tasks, horizon, m as usize, output);
     Answer::Carried(size as u32)
 }
 

@@ -12,7 +12,7 @@ use Rattle.model.specs.Carry.{opening, carried}
 use Rattle.model.specs.Compute.Jumps.{waiting, carryByStarts}
 use Rattle.model.proofs.Jobs.{Good}
 use Rattle.carrytheory.proofs.Depends.{Below}
-use Rattle.carrytheory.proofs.Recorded.{record-total, record-exists}
+use Rattle.carrytheory.proofs.Recorded.{record-few, record-exists}
 use Rattle.carrytheory.proofs.Waiting.{waiting-size}
 use Rattle.carrytheory.proofs.ByStarts.{carried-by-starts}
 use Rattle.carrytheory.proofs.Begin.{Able, Going, latestEnd, going-first, going-all, going-done}
@@ -69,7 +69,7 @@ module _ (ρ : Run) (L : WithinLimits ρ) where
 
     few-wait : waiting σ₀ ≤ mostJobs
     unfolding opening
-    few-wait = omega (arith, waiting-size σ₀, record-total σ₀ (opening-jobs ρ H′))
+    few-wait = omega (arith, waiting-size σ₀, record-few σ₀ (opening-jobs ρ H′))
 
     -- the carry at its start, with no job begun that has not begun before H
     pub going₀ : Going σ₀ H mostTime (waiting σ₀) H σ₀

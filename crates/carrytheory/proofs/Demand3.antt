@@ -12,7 +12,7 @@ use Rattle.model.specs.Answers.{Late, BeginsBeforeH}
 use Rattle.model.specs.File.{recordNumbers, RecordFits, whole, read, bytes, sizeOf}
 use Rattle.model.specs.Carry.{opening, carried, carriedFile, carry}
 use Rattle.model.specs.Compute.Verdict.{verdict, checkOf, check}
-use Rattle.model.proofs.Jobs.{existing-total}
+use Rattle.model.proofs.Jobs.{existing-few}
 use Rattle.model.proofs.Demand2.{accepted-exactly-if-obeyed}
 use Rattle.model.proofs.Reading.{read-limits}
 use Rattle.model.proofs.RoundTrip.{Fits, fits-nil, fits-cons, length-bytes, read-back}
@@ -88,7 +88,7 @@ module _ (ρ : Run) (H′ : ℕ) (L : WithinLimits ρ) (O : Obeys ρ) (longer : 
         task-count = rw carried-tasks (L .task-count);
         tasks = rw carried-tasks (L .tasks);
         job-count = rw (carried-tasks, carried-setting) few;
-        record-count = omega (arith, carried-count, existing-total ρ H′);
+        record-count = omega (arith, carried-count, existing-few ρ H′);
       }
 
   -- No job of the output ends later than 514,000,000.

@@ -1,5 +1,5 @@
 -- The records of a run that obeys rule 1: each existing job has one, and only existing jobs do, in order. Assumes nothing.
-use Prim.Native.Nat.{ℕ, zero, suc, _<_}
+use Prim.Native.Nat.{ℕ, zero, suc, _<_, _≤_}
 use mathlib.Core.Path.{_≡_, refl, sym, subst, _∙_, ap}
 use mathlib.Core.List.{List, [], _∷_, map}
 use native.Mathlib.Omega.{arith}
@@ -7,7 +7,7 @@ use lib.ListN.{length, getD, length-map}
 use Rattle.model.specs.Model.{Run, Job, IsRecord, Exists, rec, taskOf, task, jobOf, existing, totalJobs, noRecord}
 use Rattle.model.specs.Rules.{Jobs}
 use Rattle.carrytheory.proofs.Depends.{existing-rises, existing-distinct, existing-iff}
-use Rattle.model.proofs.Jobs.{Good, Lower, existing-total}
+use Rattle.model.proofs.Jobs.{Good, Lower, existing-total, existing-few}
 
 pub at-map : {A B : Type 0} (f : A → B) (l : List A) (k : ℕ) (b : B) (a : A) → k < length l → getD (map f l) k b ≡ f (getD l k a)
 at-map f [] k b a h = absurd (omega arith)
@@ -23,6 +23,9 @@ module _ (ρ : Run) (J : Jobs ρ) where
 
   pub record-total : length (ρ .records) ≡ totalJobs (ρ .tasks) (ρ .setting .horizon)
   record-total = record-count ∙ existing-total ρ H
+
+  pub record-few : length (ρ .records) ≤ totalJobs (ρ .tasks) (ρ .setting .horizon)
+  record-few = omega (arith, record-count, existing-few ρ H)
 
   pub record-job : (k : ℕ) → IsRecord ρ k → jobOf (rec ρ k) ≡ getD (existing ρ (ρ .setting .horizon)) k (0, 0)
   record-job k h = sym (at-map jobOf (ρ .records) k (0, 0) noRecord h) ∙ ap (λ l. getD l k (0, 0)) J

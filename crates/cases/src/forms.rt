@@ -1,7 +1,7 @@
 // The forms over lent memory: a record and a shown job as the bytes of a file, and the tasks of a file in a lent list.
 use libc::STDOUT_FILENO;
+use model::TASKS;
 use model::Task;
-use model::Tasks;
 use reader::record_of;
 use shown::shown;
 use tasklist::planned;
@@ -37,10 +37,10 @@ fn print_task(task: Task) {
     print_number(task.jitter as u64, b"\n");
 }
 
-fn print_tasks(tasks: Tasks) {
+fn print_tasks(tasks: [Task; TASKS]) {
     let mut i = 0;
-    while i < Task::MOST as usize {
-        print_task(tasks.list[i]);
+    while i < TASKS {
+        print_task(tasks[i]);
         i += 1;
     }
 }

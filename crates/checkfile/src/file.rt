@@ -2,6 +2,7 @@
 use model::Answer;
 use openfile::Opened;
 use openfile::open_file;
+use tasklist::tasks_of;
 use verdict::judge_run;
 ghost use mathlib.Core.Path.{_≡_};
 ghost use Rattle.model.specs.Answers.{fiveOf};
@@ -13,6 +14,6 @@ pub fn check_file(file: &[u8]) -> Answer
 {
     match open_file(file) {
         Opened::Refused(number, task) => Answer::Refused(number, task),
-        Opened::Whole(head) => judge_run(file, head),
+        Opened::Whole(head) => judge_run(file, head, tasks_of(file, head)),
     }
 }

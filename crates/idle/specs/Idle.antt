@@ -1,12 +1,14 @@
 -- What rule 8 asks of the columns: the least record that waits while a core idles, the least such instant, the least such core.
-use Prim.Native.Nat.{ℕ, _-_, _≤_, _<_}
+use Prim.Native.Nat.{ℕ, _+_, _-_, _≤_, _<_}
 use mathlib.Core.Path.{_≡_}
 use mathlib.Core.Bool.{Bool, true, false, not, _&&_}
-use mathlib.Core.List.{List}
+use mathlib.Core.List.{List, [], _∷_}
 use mathlib.Core.Option.{Option}
 use lib.Dec.{leb, ltb, eqb}
 use lib.ListN.{length, getD}
+use Rattle.base.specs.Columns.{Beside}
 use Rattle.base.specs.Find.{first, firstOf, found}
+use Rattle.model.specs.Model.{mostCores}
 use Rattle.idle.specs.FirstFrom.{FirstFrom, Within, Among}
 
 -- a record that is on a core from a start to an end is on core c at x
@@ -51,3 +53,11 @@ module _ (ss es cs : List ℕ) where
   pub record Begun (m b : ℕ) : Type 0 where
     pub each : (c : ℕ) → 1 ≤ c → c < m → (x : ℕ) × ((x ≤ b) × BusyFrom c 0 x)
     pub before : (x : ℕ) → x < b → (c : ℕ) × ((1 ≤ c) × ((c < m) × (busyIn c x ≡ false)))
+
+  -- what is found once for all waits on the cores 1 to N: from when on each of them has begun, and until when they idle
+  pub record Prepared (N begun : ℕ) (us : List ℕ) : Type 0 where
+    pub few : N ≤ mostCores
+    pub beside : Beside ss (es ∷ cs ∷ [])
+    pub room : length es ≤ length us
+    pub starts : Begun (N + 1) begun
+    pub untils : Untils N (length es) us

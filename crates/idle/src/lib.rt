@@ -7,19 +7,19 @@ mod wait;
 
 use base::FoundThree;
 use base::FoundTwo;
+use table::FEW;
+use table::MOST;
 use until::all_begun;
 use until::idle_until;
 use wait::first_idle;
 ghost use mathlib.Core.Path.{_≡_};
+ghost use mathlib.Core.List.{[], _∷_};
 ghost use Prim.Native.Nat.{_≤_};
 ghost use lib.ListN.{length};
+ghost use Rattle.base.specs.Columns.{Columns};
+ghost use Rattle.model.specs.Model.{mostCores, mostRecords};
 ghost use Rattle.base.specs.Find.{seenThree, firstOf};
 ghost use Rattle.idle.specs.Idle.{idleIn};
-
-// How many records a small room is for, and a large one.
-const FEW: usize = 32;
-
-const MOST: usize = 512;
 
 // Rule 8, with room for one instant a record.
 fn idle_over(
@@ -30,12 +30,7 @@ fn idle_over(
     core: &[u32],
     until: &mut [u32],
 ) -> FoundThree
-    requires { ⌜ (cores ≤ 16)
-        × (length (now ready) ≡ length (now start))
-        × (length (now end) ≡ length (now start))
-        × (length (now core) ≡ length (now start))
-        × (length (now start) ≤ 512)
-        × (length (now start) ≤ length (now until)) ⌝ }
+    requires { ⌜ (cores ≤ mostCores) × Columns mostRecords (now start) (now end ∷ now core ∷ now ready ∷ []) × (length (now start) ≤ length (now until)) ⌝ }
     ensures { λ r. ⌜ seenThree r
         ≡ firstOf (idleIn (now (start .entry)) (now (end .entry)) (now (core .entry)) cores (now (ready .entry))) 0 (length (now (start .entry))) ⌝ }
 {
@@ -63,11 +58,7 @@ fn idle_over(
 
 // Rule 8. No idling.
 pub fn idle_place(cores: u32, ready: &[u32], start: &[u32], end: &[u32], core: &[u32]) -> FoundThree
-    requires { ⌜ (cores ≤ 16)
-        × (length (now ready) ≡ length (now start))
-        × (length (now end) ≡ length (now start))
-        × (length (now core) ≡ length (now start))
-        × (length (now start) ≤ 512) ⌝ }
+    requires { ⌜ (cores ≤ mostCores) × Columns mostRecords (now start) (now end ∷ now core ∷ now ready ∷ []) ⌝ }
     ensures { λ r. ⌜ seenThree r
         ≡ firstOf (idleIn (now (start .entry)) (now (end .entry)) (now (core .entry)) cores (now (ready .entry))) 0 (length (now (start .entry))) ⌝ }
 {

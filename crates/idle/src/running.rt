@@ -4,15 +4,18 @@ use crate::instant::first_within;
 use base::Found;
 use base::sooner;
 ghost use mathlib.Core.Path.{_≡_};
+ghost use mathlib.Core.List.{[], _∷_};
 ghost use Prim.Native.Nat.{_≤_};
 ghost use lib.ListN.{length};
+ghost use Rattle.base.specs.Columns.{Beside};
 ghost use Rattle.base.specs.Find.{seen};
+ghost use Rattle.model.specs.Model.{mostCores};
 ghost use Rattle.idle.specs.FirstFrom.{FirstFrom};
 ghost use Rattle.idle.specs.Idle.{Runs, busyIn, idleCoreIn, BusyFrom};
 
 // Whether some record runs on core c at t.
 fn busy(c: u32, t: u32, start: &[u32], end: &[u32], core: &[u32]) -> bool
-    requires { ⌜ (length (now end) ≡ length (now start)) × (length (now core) ≡ length (now start)) ⌝ }
+    requires { ⌜ Beside (now start) (now end ∷ now core ∷ []) ⌝ }
     ensures { λ r. ⌜ r ≡ busyIn (now (start .entry)) (now (end .entry)) (now (core .entry)) c t ⌝ }
 {
     let mut k = 0;
@@ -31,7 +34,7 @@ fn busy(c: u32, t: u32, start: &[u32], end: &[u32], core: &[u32]) -> bool
 
 // The least core that idles at t.
 pub(crate) fn idle_core(cores: u32, t: u32, start: &[u32], end: &[u32], core: &[u32]) -> Found
-    requires { ⌜ (cores ≤ 16) × (length (now end) ≡ length (now start)) × (length (now core) ≡ length (now start)) ⌝ }
+    requires { ⌜ (cores ≤ mostCores) × Beside (now start) (now end ∷ now core ∷ []) ⌝ }
     ensures { λ r. ⌜ seen r ≡ idleCoreIn (now (start .entry)) (now (end .entry)) (now (core .entry)) cores t ⌝ }
 {
     let mut c = 1;
@@ -57,7 +60,7 @@ fn runs_from(c: u32, t: u32, start: u32, end: u32, core: u32) -> u32
 
 // The first instant from t on at which core c is busy. What is read is handed on as it is: the pass then takes several records at once.
 pub(crate) fn busy_from(c: u32, t: u32, start: &[u32], end: &[u32], core: &[u32]) -> u32
-    requires { ⌜ (length (now end) ≡ length (now start)) × (length (now core) ≡ length (now start)) ⌝ }
+    requires { ⌜ Beside (now start) (now end ∷ now core ∷ []) ⌝ }
     ensures { λ r. ⌜ BusyFrom (now (start .entry)) (now (end .entry)) (now (core .entry)) c t r ⌝ }
 {
     let mut first = NEVER;

@@ -6,11 +6,11 @@ use base::Found;
 use base::FoundTwo;
 use base::sooner;
 ghost use mathlib.Core.Path.{_≡_};
-ghost use Prim.Native.Nat.{_+_, _-_, _≤_};
+ghost use Prim.Native.Nat.{_-_, _≤_};
 ghost use lib.ListN.{length};
 ghost use Rattle.base.specs.Find.{seenTwo, firstOf};
 ghost use Rattle.idle.specs.FirstFrom.{FirstFrom};
-ghost use Rattle.idle.specs.Idle.{idleCoreIn, Stretches, Untils, Begun};
+ghost use Rattle.idle.specs.Idle.{idleCoreIn, Stretches, Prepared};
 
 // The first instant from `from` on that lies between the end of a record and the instant until which its core then idles.
 fn least_idle(from: u32, end: &[u32], until: &[u32]) -> u32
@@ -38,12 +38,7 @@ pub(crate) fn first_idle(
     core: &[u32],
     until: &[u32],
 ) -> FoundTwo
-    requires { ⌜ (cores ≤ 16)
-        × (length (now end) ≡ length (now start))
-        × (length (now core) ≡ length (now start))
-        × (length (now end) ≤ length (now until))
-        × Begun (now start) (now end) (now core) (cores + 1) begun
-        × Untils (now start) (now end) (now core) cores (length (now end)) (now until) ⌝ }
+    requires { ⌜ Prepared (now start) (now end) (now core) cores begun (now until) ⌝ }
     ensures { λ r. ⌜ seenTwo r ≡ firstOf (idleCoreIn (now (start .entry)) (now (end .entry)) (now (core .entry)) cores) from (to - from) ⌝ }
 {
     if to <= from {

@@ -2,15 +2,12 @@
 use openfile::Head;
 use runfile::read_column;
 use table::RECORDED;
-ghost use mathlib.Core.Path.{_≡_};
-ghost use Prim.Native.Nat.{_*_};
-ghost use lib.ListN.{length};
 ghost use Rattle.model.specs.Model.{Run};
 ghost use Rattle.openfile.specs.Head.{Tells};
-ghost use Rattle.table.specs.Table.{Loads, columns, recorded};
+ghost use Rattle.table.specs.Table.{Sized, Loads, recorded};
 
 pub fn read_table(file: &[u8], head: Head, t: &mut [u32])
-    requires { ⌜ (length (now t) ≡ columns * head .records) × ((ρ : Run) × Tells (now file) head ρ) ⌝ }
+    requires { ⌜ Sized (now t) (head .records) × ((ρ : Run) × Tells (now file) head ρ) ⌝ }
     ensures { λ _. ⌜ ((ρ : Run) → Tells (now (file .entry)) head ρ → Loads recorded ρ (head .records) (now (t .entry)) (now (t .exit))) ⌝ }
 {
     let at = head.records_at as usize;

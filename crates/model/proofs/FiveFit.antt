@@ -14,7 +14,7 @@ use Rattle.model.specs.Answers.{Five, five, number, refusal, Listed, Ver
 use Rattle.model.specs.Refusals.{taskCount, tasksTold, Names}
 use Rattle.model.specs.Calls.{answerSize, numbers, written, fiveIn, CheckCall, checkCall}
 use Rattle.model.specs.Compute.Verdict.{check}
-use Rattle.model.proofs.Jobs.{existing-total}
+use Rattle.model.proofs.Jobs.{existing-few}
 use Rattle.model.proofs.Lowest.{number-range}
 use Rattle.model.proofs.Reading.{length-entries, read-limits, read-records}
 use Rattle.model.proofs.RoundTrip.{Fits, fits-nil, fits-cons, digits}
@@ -85,7 +85,7 @@ module _ (b : List ℕ) (B : Bytes b) where
 
     job-number : (k : ℕ) → k < max (length (jobsRecorded ρ)) (length (existing ρ (ρ .setting .horizon))) → FourBytes k
     job-number k h =
-        omega (arith, h, length-map (ρ .records) jobOf, existing-total ρ (ρ .setting .horizon), L .record-count, L .job-count)
+        omega (arith, h, length-map (ρ .records) jobOf, existing-few ρ (ρ .setting .horizon), L .record-count, L .job-count)
 
     -- the place of a rule that is broken
     place-fits : (ν : Rule) (p : Place) → BrokenAt ν ρ p → FourBytes (p .x) × FourBytes (p .y) × FourBytes (p .z)

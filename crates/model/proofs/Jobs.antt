@@ -245,9 +245,13 @@ pub existing-jobs : (ρ : Run) (H : ℕ) → existing ρ H ≡ jobs (ρ .tasks) 
 unfolding existing
 existing-jobs ρ H = refl
 
--- as many as refusal 6 counts
+-- As many as refusal 6 counts. Where that there are not too many is all that is asked, the law below is cited, and not this one: the count
+-- is of the tasks alone, and which jobs exist need not be.
 pub existing-total : (ρ : Run) (H : ℕ) → length (existing ρ H) ≡ totalJobs (ρ .tasks) H
 existing-total ρ H = ap length (existing-jobs ρ H) ∙ length-jobs (ρ .tasks) H
+
+pub existing-few : (ρ : Run) (H : ℕ) → length (existing ρ H) ≤ totalJobs (ρ .tasks) H
+existing-few ρ H = omega (arith, existing-total ρ H)
 
 -- Which exist
 -- -----------

@@ -9,4 +9,4 @@ pub use answer::Answer;
 pub use record::Record;
 pub use setting::Setting;
 pub use task::Task;
-pub use tasks::Tasks;
+pub use tasks::TASKS;

@@ -1,6 +1,4 @@
-// The tasks of a file, held as a value: as many as a file can have, in order, and then tasks of zeros.
+// A list with room for the tasks of any file.
 use crate::task::Task;
 
-pub struct Tasks {
-    pub list: [Task; 32],
-}
+pub const TASKS: usize = Task::MOST as usize;

@@ -1,11 +1,11 @@
 -- What a file tells besides its records: its head, or its refusal.
-use Prim.Native.Nat.{ℕ, _+_}
+use Prim.Native.Nat.{ℕ, _+_, _≤_, _<_}
 use mathlib.Core.Path.{_≡_}
 use mathlib.Core.List.{List}
 use mathlib.Core.Option.{none, some}
 use lib.ListN.{length}
 use Rattle.model.specs.declared.task.Task.{Task}
-use Rattle.model.specs.Model.{Run, totalJobs}
+use Rattle.model.specs.Model.{Run, WithinLimits, task, totalJobs}
 use Rattle.model.specs.File.{Read, refused, whole, read, tasksPlace, recordPlace}
 use Rattle.model.specs.Compute.Limits.{badTask}
 use Rattle.openfile.specs.declared.head.Head.{Head}
@@ -33,6 +33,17 @@ openedOf (whole ρ) = Whole (headOf ρ)
 pub record Tells (b : List ℕ) (h : Head) (ρ : Run) : Type 0 where
   pub reads : read b ≡ whole ρ
   pub head : h ≡ headOf ρ
+
+-- The first entries of a list are the tasks of a run.
+pub record Leads (ρ : Run) (l : List Task) : Type 0 where
+  pub room : length (ρ .tasks) ≤ length l
+  pub each : (i : ℕ) → i < length (ρ .tasks) → task l i ≡ task (ρ .tasks) i
+
+-- What is known of a run, within its limits, besides its records: its head, and its tasks in a list.
+pub record Known (h : Head) (l : List Task) (ρ : Run) : Type 0 where
+  pub limits : WithinLimits ρ
+  pub head : h ≡ headOf ρ
+  pub tasks : Leads ρ l
 
 -- The least task that is out of its ranges, or, where none is, how many jobs the tasks have before a horizon.
 pub data Tallies (τs : List Task) (H : ℕ) : Tally → Type 0 where

@@ -2,9 +2,10 @@
 use base::Found;
 ghost use mathlib.Core.Path.{_≡_};
 ghost use mathlib.Core.Bool.{not, _&&_};
-ghost use Prim.Native.Nat.{_≤_};
+ghost use mathlib.Core.List.{[], _∷_};
 ghost use lib.Dec.{leb};
 ghost use lib.ListN.{length};
+ghost use Rattle.base.specs.Columns.{Columns};
 ghost use Rattle.base.specs.Find.{seen, first};
 ghost use Rattle.rules.specs.Asked.{obeyedBy, obeyedIn};
 
@@ -56,10 +57,7 @@ fn obeyed(asks: Asks, a: u32, b: u32, c: u32, d: u32) -> bool
 
 // The least record that does not do as it is asked.
 pub fn record_place(asks: Asks, a: &[u32], b: &[u32], c: &[u32], d: &[u32]) -> Found
-    requires { ⌜ (length (now b) ≡ length (now a))
-        × (length (now c) ≡ length (now a))
-        × (length (now d) ≡ length (now a))
-        × (length (now a) ≤ 4294967295) ⌝ }
+    requires { ⌜ Columns 4294967295 (now a) (now b ∷ now c ∷ now d ∷ []) ⌝ }
     ensures { λ r. ⌜ seen r
         ≡ first (λ k. not (obeyedIn asks (now (a .entry)) (now (b .entry)) (now (c .entry)) (now (d .entry)) k)) 0 (length (now (a .entry))) ⌝ }
 {

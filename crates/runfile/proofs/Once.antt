@@ -6,7 +6,6 @@ use Rattle.base.proofs.Once.{Once}
 use Rattle.runfile.proofs.number.num_at.Reads as num-at
 use Rattle.runfile.proofs.entry.setting_of.Reads as setting-of
 use Rattle.runfile.proofs.entry.task_at.Reads as task-at
-use Rattle.runfile.proofs.entry.task_in.Reads as task-in
 use Rattle.runfile.proofs.entry.records_place.Reads as records-place
 use Rattle.runfile.proofs.entry.size_of.Reads as size-of
 use Rattle.runfile.proofs.entry.record_at.Reads as record-at
@@ -21,9 +20,6 @@ setting-of-once κs args _ r r′ exit exit′ p q = p ∙ sym q
 
 pub task-at-once : Once task-at.Pre task-at.Post (λ r exit. r)
 task-at-once κs args _ r r′ exit exit′ p q = p ∙ sym q
-
-pub task-in-once : Once task-in.Pre task-in.Post (λ r exit. r)
-task-in-once κs args _ r r′ exit exit′ p q = p ∙ sym q
 
 pub records-place-once : Once records-place.Pre records-place.Post (λ r exit. r)
 records-place-once κs args _ r r′ exit exit′ p q = p ∙ sym q

@@ -1,16 +1,14 @@
 // Numbers read once: one number of each record, into a part of a table.
 use crate::entry::RECORD_SIZE;
 use crate::number::word_at;
-ghost use Prim.Native.Nat.{_+_, _*_, _≤_};
-ghost use lib.ListN.{length};
+ghost use Prim.Native.Nat.{_+_, _*_};
 ghost use Rattle.base.specs.Fill.{Fills};
-ghost use Rattle.model.specs.File.{num, recordSize, longestFile};
-ghost use Rattle.model.specs.Model.{mostRecords};
+ghost use Rattle.model.specs.File.{num, recordSize};
+ghost use Rattle.runfile.specs.HasColumn.{HasColumn};
 
 // The number that stands at a place, and those that stand n - 1 times one record later, into a slice from another place on.
-// The last number ends within the file; what stands after it in its record, at most 20 bytes, need not.
 pub fn read_column(file: &[u8], at: usize, n: usize, t: &mut [u32], from: usize)
-    requires { ⌜ (at ≤ longestFile) × (n ≤ mostRecords) × (at + recordSize * n ≤ length (now file) + 20) × (from + n ≤ length (now t)) ⌝ }
+    requires { ⌜ HasColumn (now file) at n (now t) from ⌝ }
     ensures { λ _. ⌜ Fills (now (t .entry)) from n (λ k. num (now (file .entry)) (at + recordSize * k)) (now (t .exit)) ⌝ }
 {
     let mut k = 0;

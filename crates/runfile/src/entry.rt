@@ -25,22 +25,8 @@ pub fn setting_of(file: &[u8]) -> Setting
     }
 }
 
-// Task i.
-pub fn task_at(file: &[u8], i: u32) -> Task
-    ensures { λ r. ⌜ r ≡ taskAt (now (file .entry)) (tasksPlace + 4 + taskSize * i) ⌝ }
-{
-    let at = TASKS_PLACE + 4 + TASK_SIZE * i as usize;
-    Task {
-        period: num_at(file, at),
-        least: num_at(file, at + 4),
-        greatest: num_at(file, at + 8),
-        offset: num_at(file, at + 12),
-        jitter: num_at(file, at + 16),
-    }
-}
-
 // Task i of a file that has its bytes: no byte is asked whether it stands before the end.
-pub fn task_in(file: &[u8], i: usize) -> Task
+pub fn task_at(file: &[u8], i: usize) -> Task
     requires { ⌜ tasksPlace + 4 + taskSize * i + taskSize ≤ length (now file) ⌝ }
     ensures { λ r. ⌜ r ≡ taskAt (now (file .entry)) (tasksPlace + 4 + taskSize * i) ⌝ }
 {

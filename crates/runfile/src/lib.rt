@@ -14,5 +14,4 @@ pub use entry::records_place;
 pub use entry::setting_of;
 pub use entry::size_of;
 pub use entry::task_at;
-pub use entry::task_in;
 pub use number::num_at;

@@ -16,14 +16,14 @@ use Rattle.model.specs.declared.record.Record.{Record}
 use Rattle.model.specs.declared.task.Task.{Task}
 use Rattle.model.specs.Carry.{placeOf, unbegun, keptIf, atHOf, atH}
 use Rattle.model.specs.Compute.Places.{sameJob}
-use Rattle.model.specs.File.{taskAt, recordAt, tasksPlace, taskSize, recordSize}
+use Rattle.model.specs.File.{recordAt, recordSize}
 use Rattle.model.specs.Model.{Run, Job, IsRecord, arrival, jobCount, jobOf, rec, task}
 use Rattle.model.specs.Rules.{Jobs}
 use Rattle.model.proofs.Jobs.{Good, job-exists}
 use Rattle.model.proofs.RuleTests.{says-same-job}
 use Rattle.openfile.specs.declared.head.Head.{Head}
 use Rattle.openfile.specs.Head.{Tells}
-use Rattle.openfile.proofs.WholeOrRefused.{tells-count, tells-limits, tells-record, tells-setting, tells-task, tells-task-count}
+use Rattle.openfile.proofs.WholeOrRefused.{tells-count, tells-limits, tells-record, tells-setting}
 
 -- a record of a job is the least where each job has one
 only-record : (ρ : Run) → Jobs ρ → (p : ℕ) (q : Job) → IsRecord ρ p → jobOf (rec ρ p) ≡ q → some p ≡ placeOf ρ q
@@ -49,7 +49,7 @@ module _ {b : List ℕ} {h : Head} {ρ : Run} (T : Tells b h ρ) where
       only-record ρ J p q (omega (arith, tells-count T)) (ap jobOf (tells-record T p l ∙ sym e) ∙ same)
 
   -- a job that does not exist at H has no record
-  pub not-yet : Jobs ρ → (i j : ℕ) {τ : Task} → τ ≡ taskAt b (tasksPlace + 4 + taskSize * i) → jobCount τ (h .setting .horizon) ≤ j → none ≡ placeOf ρ (i, j)
+  pub not-yet : Jobs ρ → (i j : ℕ) {τ : Task} → task (ρ .tasks) i ≡ τ → jobCount τ (h .setting .horizon) ≤ j → none ≡ placeOf ρ (i, j)
   not-yet J i j {τ} e l = go (place-finds ρ (i, j))
     where
       go : Finds _<_ (RecordOf ρ (i, j)) (placeOf ρ (i, j)) → none ≡ placeOf ρ (i, j)
@@ -60,19 +60,15 @@ module _ {b : List ℕ} {h : Head} {ρ : Run} (T : Tells b h ρ) where
           let same : rec ρ p .task ≡ i = ap (λ q. q .0) (F .here .1) in
           let number : rec ρ p .job ≡ j = ap (λ q. q .1) (F .here .1) in
           let there : i < length (ρ .tasks) = omega arith in
-          let told : task (ρ .tasks) i ≡ τ = tells-task T i (omega (arith, tells-task-count T)) ∙ sym e in
           let y : arrival (task (ρ .tasks) i) j < ρ .setting .horizon = rw (same, number) at x in
-          let z : arrival τ j < h .setting .horizon = rw (tells-setting T) (rw told at y) in
-          let k = job-exists τ (h .setting .horizon) j (rw told at (good i there)) .1 z in
+          let z : arrival τ j < h .setting .horizon = rw (tells-setting T) (rw e at y) in
+          let k = job-exists τ (h .setting .horizon) j (rw e at (good i there)) .1 z in
           absurd (omega (arith, k))
 
   module _ (q : Job) where
     -- no record: a new job
-    pub new-is : {τ : Task} → q .0 < length (ρ .tasks) → none ≡ placeOf ρ q → τ ≡ taskAt b (tasksPlace + 4 + taskSize * q .0)
-        → unbegun q (arrival τ (q .1)) ≡ atH ρ q
-    new-is l w e =
-        let i : q .0 < h .tasks = omega (arith, tells-task-count T) in
-        ap (λ σ. unbegun q (arrival σ (q .1))) (e ∙ sym (tells-task T (q .0) i)) ∙ ap (atHOf ρ q) w
+    pub new-is : {τ : Task} → task (ρ .tasks) (q .0) ≡ τ → none ≡ placeOf ρ q → unbegun q (arrival τ (q .1)) ≡ atH ρ q
+    new-is e w = ap (λ τ. unbegun q (arrival τ (q .1))) (sym e) ∙ ap (atHOf ρ q) w
 
     module _ {k : ℕ} {x : Record} (w : some k ≡ placeOf ρ q) (e : x ≡ recordAt b (h .«records_at» + recordSize * k)) where
       is-record : x ≡ rec ρ k

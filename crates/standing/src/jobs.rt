@@ -1,17 +1,16 @@
 // The jobs that exist at a horizon, in order of task, then job, into the first two columns of a table.
-use runfile::task_at;
+use model::TASKS;
+use model::Task;
 use table::TASK;
 use table::put_row;
-ghost use mathlib.Core.Path.{_≡_};
-ghost use Prim.Native.Nat.{_+_, _*_, _≤_};
-ghost use lib.ListN.{length};
-ghost use Rattle.model.specs.Model.{Run, mostRecords};
+ghost use Prim.Native.Nat.{_+_, _≤_};
+ghost use Rattle.model.specs.Model.{Run};
 ghost use Rattle.standing.specs.WhoseRows.{OfTask, OfTasks};
-ghost use Rattle.table.specs.Table.{Lent, Rows, columns};
+ghost use Rattle.table.specs.Table.{Sized, Lent, Rows};
 
 // The first jobs of task i, in the rows from a place on.
 fn list_task(i: u32, count: usize, t: &mut [u32], m: usize, at: usize)
-    requires { ⌜ (at + count ≤ m) × (m ≤ mostRecords) × (length (now t) ≡ columns * m) ⌝ }
+    requires { ⌜ Sized (now t) m × (at + count ≤ m) ⌝ }
     ensures { λ _. ⌜ ((σ : Run) → OfTask σ i at count → Rows 0 2 at σ (now (t .entry)) m → Rows 0 2 (at + count) σ (now (t .exit)) m) ⌝ }
 {
     let mut j = 0;
@@ -21,15 +20,15 @@ fn list_task(i: u32, count: usize, t: &mut [u32], m: usize, at: usize)
     }
 }
 
-// The jobs of the first n tasks of a file before a horizon.
-pub(crate) fn list_jobs(file: &[u8], n: u32, horizon: u32, t: &mut [u32], m: usize)
-    requires { ⌜ (length (now t) ≡ columns * m) × ((σ : Run) × OfTasks (now file) n horizon m σ) ⌝ }
-    ensures { λ _. ⌜ ((σ : Run) → OfTasks (now (file .entry)) n horizon m σ → Lent 2 σ (now (t .exit)) m) ⌝ }
+// The jobs of the first n tasks of a list before a horizon.
+pub(crate) fn list_jobs(tasks: [Task; TASKS], n: u32, horizon: u32, t: &mut [u32], m: usize)
+    requires { ⌜ Sized (now t) m × ((σ : Run) × OfTasks tasks n horizon m σ) ⌝ }
+    ensures { λ _. ⌜ ((σ : Run) → OfTasks tasks n horizon m σ → Lent 2 σ (now (t .exit)) m) ⌝ }
 {
     let mut at = 0;
     let mut i = 0;
     while i < n {
-        let task = task_at(file, i);
+        let task = tasks[i as usize];
         let count = task.jobs(horizon) as usize;
         list_task(i, count, t, m, at);
         at += count;

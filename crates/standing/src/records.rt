@@ -2,29 +2,29 @@
 // jP + O. A job that has not begun has start, end and core 0.
 use base::Found;
 use model::Record;
+use model::TASKS;
+use model::Task;
 use openfile::Head;
 use reader::is_of;
 use reader::least_record;
 use runfile::record_at;
-use runfile::task_at;
 use table::JOB;
 use table::RELEASE;
 use table::put_row;
 ghost use mathlib.Core.Path.{_≡_};
-ghost use Prim.Native.Nat.{ℕ, _+_, _*_, _<_};
-ghost use lib.ListN.{length};
+ghost use Prim.Native.Nat.{ℕ};
 ghost use Rattle.base.specs.Find.{seen};
 ghost use Rattle.model.specs.Carry.{opening, atH, unbegun, placeOf};
-ghost use Rattle.model.specs.File.{taskAt, tasksPlace, taskSize};
-ghost use Rattle.model.specs.Model.{Run, arrival};
+ghost use Rattle.model.specs.File.{FourBytes};
+ghost use Rattle.model.specs.Model.{Run, arrival, task as taskIn};
 ghost use Rattle.model.specs.Rules.{Jobs};
 ghost use Rattle.openfile.specs.Head.{Tells};
 ghost use Rattle.standing.specs.Carriable.{Carriable};
 ghost use Rattle.table.specs.Table.{Lent, recorded};
 
 // The record of a job of a run that obeys rule 1: it is tried at a place first, and a job that does not exist at H has none.
-fn record_near(file: &[u8], head: Head, near: u32, i: u32, j: u32) -> Found
-    ensures { λ r. ⌜ ((ρ : Run) → Tells (now (file .entry)) head ρ → Jobs ρ → seen r ≡ placeOf ρ (i, j)) ⌝ }
+fn record_near(file: &[u8], head: Head, task: Task, near: u32, i: u32, j: u32) -> Found
+    ensures { λ r. ⌜ ((ρ : Run) → Tells (now (file .entry)) head ρ → Jobs ρ → taskIn (ρ .tasks) i ≡ task → seen r ≡ placeOf ρ (i, j)) ⌝ }
 {
     if near < head.records {
         if is_of(record_at(file, head.records_at, near), i, j) {
@@ -32,7 +32,6 @@ fn record_near(file: &[u8], head: Head, near: u32, i: u32, j: u32) -> Found
         }
     }
     let setting = head.setting;
-    let task = task_at(file, i);
     if task.jobs(setting.horizon) <= j {
         return Found::Nothing;
     }
@@ -54,12 +53,11 @@ fn waiting(i: u32, j: u32, release: u32) -> Record
 }
 
 // What stands of a job at H, given its record.
-fn standing(file: &[u8], head: Head, found: Found, i: u32, j: u32) -> Record
-    requires { ⌜ arrival (taskAt (now file) (tasksPlace + 4 + taskSize * i)) j < 4294967296 ⌝ }
-    ensures { λ r. ⌜ ((ρ : Run) → Tells (now (file .entry)) head ρ → seen found ≡ placeOf ρ (i, j) → i < length (ρ .tasks) → r ≡ atH ρ (i, j)) ⌝ }
+fn standing(file: &[u8], head: Head, task: Task, found: Found, i: u32, j: u32) -> Record
+    requires { ⌜ FourBytes (arrival task j) ⌝ }
+    ensures { λ r. ⌜ ((ρ : Run) → Tells (now (file .entry)) head ρ → taskIn (ρ .tasks) i ≡ task → seen found ≡ placeOf ρ (i, j) → r ≡ atH ρ (i, j)) ⌝ }
 {
     let Found::At(k) = found else {
-        let task = task_at(file, i);
         return waiting(i, j, task.arrival(j) as u32);
     };
     let setting = head.setting;
@@ -71,9 +69,9 @@ fn standing(file: &[u8], head: Head, found: Found, i: u32, j: u32) -> Record
 }
 
 // What stands at H of each of the m jobs whose tasks and numbers are there.
-pub(crate) fn open_records(file: &[u8], head: Head, t: &mut [u32], m: usize)
-    requires { ⌜ ((ρ : Run) × (H′ : ℕ) × Carriable (now file) head H′ m ρ × Lent 2 (opening ρ H′) (now t) m) ⌝ }
-    ensures { λ _. ⌜ ((ρ : Run) (H′ : ℕ) → Carriable (now (file .entry)) head H′ m ρ → Lent 2 (opening ρ H′) (now (t .entry)) m
+pub(crate) fn open_records(file: &[u8], head: Head, tasks: [Task; TASKS], t: &mut [u32], m: usize)
+    requires { ⌜ ((ρ : Run) × (H′ : ℕ) × Carriable (now file) head tasks H′ m ρ × Lent 2 (opening ρ H′) (now t) m) ⌝ }
+    ensures { λ _. ⌜ ((ρ : Run) (H′ : ℕ) → Carriable (now (file .entry)) head tasks H′ m ρ → Lent 2 (opening ρ H′) (now (t .entry)) m
         → Lent recorded (opening ρ H′) (now (t .exit)) m) ⌝ }
 {
     let mut near = 0;
@@ -81,8 +79,9 @@ pub(crate) fn open_records(file: &[u8], head: Head, t: &mut [u32], m: usize)
     while k < m {
         let i = t[k];
         let j = t[JOB * m + k];
-        let found = record_near(file, head, near, i, j);
-        let x = standing(file, head, found, i, j);
+        let task = tasks[i as usize];
+        let found = record_near(file, head, task, near, i, j);
+        let x = standing(file, head, task, found, i, j);
         if let Found::At(place) = found {
             near = place + 1;
         }

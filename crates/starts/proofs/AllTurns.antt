@@ -6,11 +6,10 @@ use mathlib.Core.List.{List, [], _∷_}
 use native.Mathlib.Omega.{arith}
 use native.Mathlib.Decide.{decLt}
 use lib.ListN.{length, getD, take, drop, List·getD-eq-default}
-use Rattle.model.specs.Model.{Run, rec, taskOf, mostTime}
+use Rattle.model.specs.Model.{Run, rec, taskOf, mostTime, mostCores, mostRecords}
 use Rattle.model.specs.Rules.{Jobs}
 use Rattle.model.specs.Carry.{starts, opening, carried}
 use Rattle.model.specs.Compute.Jumps.{waiting, startAll, carryByStarts}
-use Rattle.model.proofs.Jobs.{existing-total}
 use Rattle.carrytheory.proofs.Waiting.{Waits, waits, waiting-size}
 use Rattle.carrytheory.proofs.StartChanges.{rule1-stays}
 use Rattle.carrytheory.proofs.ByStarts.{carried-by-starts}
@@ -49,17 +48,17 @@ module _ {ρ : Run} {H′ N H : ℕ} {t : List ℕ} {n : ℕ} (X : Opened ρ H�
   going : Going σ H mostTime (waiting σ) H σ
   going =
       rw (X .horizon)
-      (going₀ ρ (X .limits) H′ (X .obeys) (rw (X .horizon) at (X .longer)) (X .most) (omega (arith, X .few, existing-total ρ H′)))
+      (going₀ ρ (X .limits) H′ (X .obeys) (rw (X .horizon) at (X .longer)) (X .most) (X .few))
 
   cores-then : N ≡ σ .setting .cores
   unfolding opening
   cores-then = X .cores
 
   module _ {es cs : List ℕ} (ends : es ≡ take n (drop (4 * n) t)) (on : cs ≡ take n (drop (5 * n) t)) (long : length cs ≡ n) where
-    pub on-core : (k : ℕ) → getD cs k 0 ≤ 16
+    pub on-core : (k : ℕ) → getD cs k 0 ≤ mostCores
     on-core k = go (decLt k n)
       where
-        go : Dec (k < n) → getD cs k 0 ≤ 16
+        go : Dec (k < n) → getD cs k 0 ≤ mostCores
         go (yes h) =
             let c : getD cs k 0 ≡ rec σ k .core = rw on (core-of (X .table) k h) in
             omega (arith, going .inv .cores k (omega (arith, X .table .count)), X .table .limits .setting .cores)
@@ -82,7 +81,7 @@ module _ {ρ : Run} {H′ N H : ℕ} {t : List ℕ} {n : ℕ} (X : Opened ρ H�
 -- From turn to turn
 -- -----------------
 module _ {σ₀ : Run} {H N : ℕ} {t : List ℕ} {n : ℕ} {T : Taken} {v left : ℕ} (R : Reached σ₀ H N t n T v left) where
-  pub some-cores : (1 ≤ N) × (N ≤ 16)
+  pub some-cores : (1 ≤ N) × (N ≤ mostCores)
   some-cores = omega (arith, R .cores, R .table .limits .setting .cores)
 
   module _ {u k : ℕ} (C : Chosen n (max v (T .least)) (take n (drop (5 * n) t)) (take n (drop (12 * n) t)) (take n (drop (11 * n) t)) u k) where
@@ -90,7 +89,7 @@ module _ {σ₀ : Run} {H N : ℕ} {t : List ℕ} {n : ℕ} {T : Taken} {v left 
     time = number-of (R .table) 9 k (9 * n + k) (omega arith) (C .range) refl
 
     -- the job's row is in the table, and its end is a number of four bytes
-    pub in-table : (k < n) × (n ≤ 512) × (length t ≡ columns * n) × (u + getD t (9 * n + k) 0 < 2 ^ 32)
+    pub in-table : (k < n) × (n ≤ mostRecords) × (length t ≡ columns * n) × (u + getD t (9 * n + k) 0 < 2 ^ 32)
     in-table =
         let l = R .going .able .most (rec (R .run) k .task) in
         let f = turn-fits (R .going) (R .table) (R .jobs) (R .cores) (R .ends) (R .least) C in

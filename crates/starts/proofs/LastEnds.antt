@@ -8,7 +8,7 @@ use native.Mathlib.Omega.{arith}
 use native.Mathlib.Decide.{ℕ-discrete}
 use lib.ListN.{length, getD, set, take, drop, length-set}
 use Rattle.base.proofs.Searches.{total-number, finds-some}
-use Rattle.model.specs.Model.{Run, IsRecord, rec, taskOf}
+use Rattle.model.specs.Model.{Run, mostCores, IsRecord, rec, taskOf}
 use Rattle.model.specs.Rules.{Busy}
 use Rattle.model.specs.Carry.{starts}
 use Rattle.model.specs.Compute.Places.{idleCore}
@@ -24,8 +24,8 @@ use Rattle.starts.proofs.State.{end-of, core-of}
 
 -- entry d of a list is the last end on core d of a run
 pub record Ends (σ : Run) (xs : List ℕ) : Type 0 where
-  pub count : length xs ≡ 17
-  pub each : (d : ℕ) → 1 ≤ d → d < 17 → LastEnd σ d (getD xs d 0)
+  pub count : length xs ≡ mostCores + 1
+  pub each : (d : ℕ) → 1 ≤ d → d ≤ mostCores → LastEnd σ d (getD xs d 0)
 
 -- what the columns of the ends and the cores tell
 pub ends-of : {σ : Run} {t xs es cs : List ℕ} {n : ℕ} → Lent columns σ t n → es ≡ take n (drop (4 * n) t) → cs ≡ take n (drop (5 * n) t) → length cs ≡ n
@@ -87,7 +87,7 @@ module _ (σ : Run) (u k c : ℕ) (range : IsRecord σ k) (waits-here : rec σ k
           let e = elsewhere σ u k c W j z in
           inr (j, still-record σ u k c W j l, rw e p, rw e q)
 
-  pub ends-then : {xs : List ℕ} → Ends σ xs → 1 ≤ c → c < 17 → getD xs c 0 ≤ u → Ends (starts σ u k c) (set xs c (u + taskOf σ k .greatest))
+  pub ends-then : {xs : List ℕ} → Ends σ xs → 1 ≤ c → c ≤ mostCores → getD xs c 0 ≤ u → Ends (starts σ u k c) (set xs c (u + taskOf σ k .greatest))
   ends-then {xs} E low small free =
       record {
         count = length-set xs c (u + W) ∙ E .count;
@@ -97,7 +97,7 @@ module _ (σ : Run) (u k c : ℕ) (range : IsRecord σ k) (waits-here : rec σ k
       }
 
 -- The core that is taken is the lowest that is free.
-module _ {σ : Run} {xs : List ℕ} (E : Ends σ xs) {N : ℕ} (cores : N ≡ σ .setting .cores) (few : N ≤ 16) where
+module _ {σ : Run} {xs : List ℕ} (E : Ends σ xs) {N : ℕ} (cores : N ≡ σ .setting .cores) (few : N ≤ mostCores) where
   ends-at : (d : ℕ) → 1 ≤ d → d ≤ N → LastEnd σ d (getD xs d 0)
   ends-at d h b = E .each d h (omega arith)
 

@@ -8,7 +8,7 @@ use native.Mathlib.Omega.{arith}
 use native.Mathlib.Decide.{ℕ-discrete}
 use lib.ListN.{take, drop}
 use Rattle.base.specs.First.{Lex}
-use Rattle.model.specs.Model.{Run, IsRecord, rec, jobOf, ready, rank}
+use Rattle.model.specs.Model.{Run, IsRecord, rec, jobOf, ready, rank, mostCores}
 use Rattle.model.specs.Rules.{Jobs}
 use Rattle.model.specs.Carry.{next, starts}
 use Rattle.model.specs.Compute.Jumps.{startAt}
@@ -90,7 +90,7 @@ module _ {σ : Run} {t : List ℕ} {n : ℕ} (T : Lent columns σ t n) {v u k : 
 module _ {σ₀ σ : Run} {H w m v : ℕ} (G : Going σ₀ H w m v σ) {t : List ℕ} {n : ℕ} (T : Lent columns σ t n) (J : Jobs σ) {N : ℕ}
     (cores : N ≡ σ .setting .cores) {xs : List ℕ} (E : Ends σ xs) {f : ℕ} (F : LeastOf xs (N + 1) f) {u k : ℕ}
     (C : Chosen n (max v f) (take n (drop (5 * n) t)) (take n (drop (12 * n) t)) (take n (drop (11 * n) t)) u k) where
-  few : N ≤ 16
+  few : N ≤ mostCores
   few = omega (arith, T .limits .setting .cores)
 
   -- so that one more had not begun

@@ -7,6 +7,7 @@ use native.Mathlib.Omega.{arith}
 use native.Mathlib.Decide.{ℕ-discrete, decLe}
 use lib.ListN.{length, getD, set, replicate, length-set}
 use lib.Seq.{getD-set-same, getD-set-other}
+use Rattle.model.specs.Model.{mostCores}
 use Rattle.starts.specs.Cores.{EndsAt, LastOf, Lasts, LeastOf, EndOf, Taking, Takes}
 use Rattle.starts.specs.declared.cores.Taken.{Taken}
 use Rattle.starts.proofs.Choosing.{below-one}
@@ -28,11 +29,11 @@ zeros (suc n) zero = refl
 zeros (suc n) (suc c) = zeros n c
 
 module _ {cs es : List ℕ} where
-  pub no-ends : {xs : List ℕ} → length xs ≡ 17 → ((c : ℕ) → getD xs c 0 ≡ 0) → Lasts 0 cs es xs
+  pub no-ends : {xs : List ℕ} → length xs ≡ mostCores + 1 → ((c : ℕ) → getD xs c 0 ≡ 0) → Lasts 0 cs es xs
   no-ends l z = record { count = l; each = λ c h b. record { none-later = λ k w. absurd (omega arith); reached = inl (z c) } }
 
   -- job n ends on core c
-  pub one-end : {n : ℕ} {xs : List ℕ} → Lasts n cs es xs → {c : ℕ} → getD cs n 0 ≡ c → c ≤ 16
+  pub one-end : {n : ℕ} {xs : List ℕ} → Lasts n cs es xs → {c : ℕ} → getD cs n 0 ≡ c → c ≤ mostCores
       → Lasts (n + 1) cs es (set xs c (max (getD xs c 0) (getD es n 0)))
   one-end {n} {xs} L {c} is small =
       let e = max (getD xs c 0) (getD es n 0) in
@@ -88,7 +89,7 @@ module _ {xs : List ℕ} where
 -- The core that is taken
 -- ----------------------
 module _ {xs : List ℕ} {t e : ℕ} where
-  pub none-taken : {s : Taken} → length (s .ends) ≡ 17 → s .ends ≡ xs → s .core ≡ 0 → s .least ≡ e → Taking xs t e 1 s
+  pub none-taken : {s : Taken} → length (s .ends) ≡ mostCores + 1 → s .ends ≡ xs → s .core ≡ 0 → s .least ≡ e → Taking xs t e 1 s
   none-taken l w z f =
       record {
         count = l;
@@ -100,7 +101,7 @@ module _ {xs : List ℕ} {t e : ℕ} where
         reached = inl f;
       }
 
-  module _ {m : ℕ} (low : 1 ≤ m) (high : m ≤ 16) {s : Taken} (T : Taking xs t e m s) where
+  module _ {m : ℕ} (low : 1 ≤ m) (high : m ≤ mostCores) {s : Taken} (T : Taking xs t e m s) where
     -- core m has not been written
     as-it-was : getD (s .ends) m 0 ≡ getD xs m 0
     as-it-was = go (decLe 1 (s .core))
@@ -155,7 +156,7 @@ module _ {xs : List ℕ} {t e : ℕ} where
         go (yes f) (inr (d, h, b, y)) = inr (d, h, omega arith, omega arith)
 
   -- one of the cores is free
-  pub all-tried : {n : ℕ} {s : Taken} → n ≤ 16 → (d : ℕ) × (1 ≤ d) × (d ≤ n) × (getD xs d 0 ≤ t) → Taking xs t e (n + 1) s → Takes xs n t e s
+  pub all-tried : {n : ℕ} {s : Taken} → n ≤ mostCores → (d : ℕ) × (1 ≤ d) × (d ≤ n) × (getD xs d 0 ≤ t) → Taking xs t e (n + 1) s → Takes xs n t e s
   all-tried {n} {s} few (d, h, b, free) T = go (decLe 1 (s .core))
     where
       go : Dec (1 ≤ s .core) → Takes xs n t e s

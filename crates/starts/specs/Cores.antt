@@ -4,7 +4,13 @@ use mathlib.Core.Path.{_≡_}
 use mathlib.Core.Logic.{_⊎_}
 use mathlib.Core.List.{List}
 use lib.ListN.{length, getD, set}
+use Rattle.model.specs.Model.{mostCores}
 use Rattle.starts.specs.declared.cores.Taken.{Taken}
+
+-- ends, and the cores on which: none above the most
+pub record Ran (es cs : List ℕ) : Type 0 where
+  pub long : length es ≡ length cs
+  pub cores : (k : ℕ) → getD cs k 0 ≤ mostCores
 
 -- of the first n jobs one ends at e on core c, or e is 0: cores, ends
 abbrev pub EndsAt : ℕ → List ℕ → List ℕ → ℕ → ℕ → Type 0
@@ -17,8 +23,8 @@ pub record LastOf (n : ℕ) (cs es : List ℕ) (c e : ℕ) : Type 0 where
 
 -- entry c is the last end on core c, for each core
 pub record Lasts (n : ℕ) (cs es xs : List ℕ) : Type 0 where
-  pub count : length xs ≡ 17
-  pub each : (c : ℕ) → 1 ≤ c → c < 17 → LastOf n cs es c (getD xs c 0)
+  pub count : length xs ≡ mostCores + 1
+  pub each : (c : ℕ) → 1 ≤ c → c ≤ mostCores → LastOf n cs es c (getD xs c 0)
 
 -- f is the least of the last ends on the cores below m
 pub record LeastOf (xs : List ℕ) (m f : ℕ) : Type 0 where
@@ -34,7 +40,7 @@ EndOf xs m e f = (f ≡ e) ⊎ ((d : ℕ) × (1 ≤ d) × (d < m) × (getD xs d 
 -- Of the cores below m the lowest that is free at t, if there is one, is taken until e; and of their last ends then, and e, the
 -- least is known.
 pub record Taking (xs : List ℕ) (t e m : ℕ) (s : Taken) : Type 0 where
-  pub count : length (s .ends) ≡ 17
+  pub count : length (s .ends) ≡ mostCores + 1
   pub core : s .core < m
   pub nothing : s .core ≡ 0 → (s .ends ≡ xs) × ((d : ℕ) → 1 ≤ d → d < m → t < getD xs d 0)
   pub taken : 1 ≤ s .core → (s .ends ≡ set xs (s .core) e) × (getD xs (s .core) 0 ≤ t) × ((d : ℕ) → 1 ≤ d → d < s .core → t < getD xs d 0)

@@ -3,8 +3,7 @@
 use Prim.Native.Nat.{ℕ, _≤_}
 use mathlib.Core.Path.{_≡_}
 use mathlib.Core.List.{List}
-use lib.ListN.{length}
-use Rattle.model.specs.Model.{Run, WithinLimits, mostHorizon, mostJobs, existing}
+use Rattle.model.specs.Model.{Run, WithinLimits, mostHorizon, mostJobs, totalJobs}
 use Rattle.model.specs.Rules.{Obeys}
 use Rattle.model.specs.Carry.{opening}
 use Rattle.table.specs.Table.{Lent, columns}
@@ -16,5 +15,5 @@ pub record Opened (ρ : Run) (H′ N H : ℕ) (t : List ℕ) (n : ℕ) : Type 0 
   pub horizon : H ≡ ρ .setting .horizon
   pub longer : H ≤ H′
   pub most : H′ ≤ mostHorizon
-  pub few : length (existing ρ H′) ≤ mostJobs
+  pub few : totalJobs (ρ .tasks) H′ ≤ mostJobs
   pub table : Lent columns (opening ρ H′) t n

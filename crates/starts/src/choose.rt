@@ -1,16 +1,17 @@
 // The job that starts next, by one pass over the jobs.
 use base::FoundTwo;
 use base::later;
-ghost use mathlib.Core.Path.{_≡_};
-ghost use Prim.Native.Nat.{_+_, _≤_, _<_};
+ghost use mathlib.Core.List.{[], _∷_};
+ghost use Prim.Native.Nat.{_+_, _<_};
 ghost use lib.ListN.{length};
+ghost use Rattle.base.specs.Columns.{Beside, Columns};
 ghost use Rattle.base.specs.Find.{seenTwo};
 ghost use Rattle.model.specs.Model.{mostRecords};
 ghost use Rattle.starts.specs.Choice.{Choice};
 
 // The job that starts first of the first k from v on, and when; and now of one more.
 fn better(v: u32, core: &[u32], ready: &[u32], rank: &[u32], best: FoundTwo, k: u32) -> FoundTwo
-    requires { ⌜ (length (now ready) ≡ length (now core)) × (length (now rank) ≡ length (now core)) × (k < length (now core))
+    requires { ⌜ Beside (now core) (now ready ∷ now rank ∷ []) × (k < length (now core))
         × Choice k v (now core) (now ready) (now rank) (seenTwo best) ⌝ }
     ensures { λ r. ⌜ Choice (k + 1) v (now (core .entry)) (now (ready .entry)) (now (rank .entry)) (seenTwo r) ⌝ }
 {
@@ -38,7 +39,7 @@ fn better(v: u32, core: &[u32], ready: &[u32], rank: &[u32], best: FoundTwo, k: 
 
 // The job that starts first from v on, and when.
 pub(crate) fn choose(v: u32, core: &[u32], ready: &[u32], rank: &[u32]) -> FoundTwo
-    requires { ⌜ (length (now ready) ≡ length (now core)) × (length (now rank) ≡ length (now core)) × (length (now core) ≤ mostRecords) ⌝ }
+    requires { ⌜ Columns mostRecords (now core) (now ready ∷ now rank ∷ []) ⌝ }
     ensures { λ r. ⌜ Choice (length (now (core .entry))) v (now (core .entry)) (now (ready .entry)) (now (rank .entry)) (seenTwo r) ⌝ }
 {
     let n = core.len() as u32;

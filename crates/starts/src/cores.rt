@@ -1,27 +1,31 @@
 // The cores: when each is free, and which is taken, by one pass over them.
 use base::later;
 use base::sooner;
+use model::Setting;
 ghost use mathlib.Core.Path.{_≡_};
 ghost use mathlib.Core.List.{List};
 ghost use Prim.Native.Nat.{ℕ, _+_, _≤_, _<_};
 ghost use lib.ListN.{length, getD};
 ghost use Rattle.model.specs.Model.{mostCores};
-ghost use Rattle.starts.specs.Cores.{Lasts, LeastOf, Taking, Takes};
+ghost use Rattle.starts.specs.Cores.{Ran, Lasts, LeastOf, Taking, Takes};
 
-// The last end on each of the cores 1 to 16, the core that was taken, and the least of the last ends then.
+// As many entries as there are cores, and one for none.
+const CORES: usize = Setting::MOST_CORES as usize + 1;
+
+// The last end on each of the cores from 1 on, the core that was taken, and the least of the last ends then.
 pub struct Taken {
-    pub ends: [u32; 17],
+    pub ends: [u32; CORES],
     pub core: u32,
     pub least: u32,
 }
 
 // For each core the latest end of a job on it, or 0.
 fn last_ends(end: &[u32], core: &[u32]) -> Taken
-    requires { ⌜ (length (now end) ≡ length (now core)) × ((k : ℕ) → getD (now core) k 0 ≤ mostCores) ⌝ }
+    requires { ⌜ Ran (now end) (now core) ⌝ }
     ensures { λ r. ⌜ Lasts (length (now (core .entry))) (now (core .entry)) (now (end .entry)) (r .ends) ⌝ }
 {
     let mut taken = Taken {
-        ends: [0; 17],
+        ends: [0; CORES],
         core: 0,
         least: 0,
     };
@@ -50,7 +54,7 @@ fn least_end(taken: Taken, n: u32) -> u32
 
 // The cores before the first start.
 pub(crate) fn free_cores(n: u32, end: &[u32], core: &[u32]) -> Taken
-    requires { ⌜ (1 ≤ n) × (n ≤ mostCores) × (length (now end) ≡ length (now core)) × ((k : ℕ) → getD (now core) k 0 ≤ mostCores) ⌝ }
+    requires { ⌜ (1 ≤ n) × (n ≤ mostCores) × Ran (now end) (now core) ⌝ }
     ensures { λ r. ⌜ Lasts (length (now (core .entry))) (now (core .entry)) (now (end .entry)) (r .ends) × LeastOf (r .ends) (n + 1) (r .least) ⌝ }
 {
     let mut taken = last_ends(end, core);

@@ -21,14 +21,14 @@ ghost use Prim.Native.Nat.{ℕ, _+_, _*_, _≤_};
 ghost use lib.ListN.{length, take, drop};
 ghost use Rattle.base.specs.Find.{seenTwo};
 ghost use Rattle.model.specs.Carry.{carried};
-ghost use Rattle.model.specs.Model.{Run, mostRecords};
+ghost use Rattle.model.specs.Model.{Run};
 ghost use Rattle.starts.specs.Choice.{Choice};
 ghost use Rattle.starts.specs.Opened.{Opened};
-ghost use Rattle.table.specs.Table.{Lent, columns};
+ghost use Rattle.table.specs.Table.{Lent, Sized, columns};
 
 // The job of a table that starts first from v on, and when.
 fn next_job(v: u32, t: &[u32], n: usize) -> FoundTwo
-    requires { ⌜ (n ≤ mostRecords) × (length (now t) ≡ columns * n) ⌝ }
+    requires { ⌜ Sized (now t) n ⌝ }
     ensures { λ r. ⌜ Choice n v (take n (drop (5 * n) (now (t .entry)))) (take n (drop (12 * n) (now (t .entry)))) (take n (drop (11 * n) (now (t .entry)))) (seenTwo r) ⌝ }
 {
     choose(

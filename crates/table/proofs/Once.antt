@@ -11,4 +11,4 @@ pub column-once : Once column.Pre column.Post (λ r exit. ptr r also now r)
 column-once κs args _ r r′ exit exit′ (p, _, a) (q, _, b) = both (λ κ. ((a .block ∙ sym (b .block)) κ, (a .place ∙ sym (b .place)) κ)) (p ∙ sym q)
 
 pub put-row-once : Once put-row.Pre put-row.Post (λ r exit. now (exit .0))
-put-row-once κs args h r r′ exit exit′ p q = put-same columns (h .0) (h .3) p q
+put-row-once κs args h r r′ exit exit′ p q = put-same columns (h .1) (h .0 .long) p q

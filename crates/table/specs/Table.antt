@@ -44,6 +44,11 @@ recorded = 6
 abbrev pub numberAt : Run → ℕ → ℕ → ℕ
 numberAt ρ j k = getD (row ρ k) j 0
 
+-- a table for n records
+pub record Sized (t : List ℕ) (n : ℕ) : Type 0 where
+  pub long : length t ≡ columns * n
+  pub few : n ≤ mostRecords
+
 -- The first m columns of a table for n records are those of a run, which is within its limits.
 pub record Lent (m : ℕ) (ρ : Run) (t : List ℕ) (n : ℕ) : Type 0 where
   pub limits : WithinLimits ρ

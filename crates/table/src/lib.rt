@@ -3,7 +3,7 @@ use model::Record;
 ghost use mathlib.Core.Path.{_≡_};
 ghost use Prim.Native.Nat.{_+_, _*_, _≤_, _<_};
 ghost use lib.ListN.{length, take, drop};
-ghost use Rattle.table.specs.Table.{columns, PutRow, LiesAt};
+ghost use Rattle.table.specs.Table.{columns, Sized, PutRow, LiesAt};
 
 // How many columns there are, and how many of them stand in a file.
 pub const COLUMNS: usize = 13;
@@ -44,7 +44,7 @@ pub const READY: usize = 12;
 
 // Column j of a table for n records, as the part of the table that it is.
 pub fn column<'a>(t: &'a [u32], n: usize, j: usize) -> &'a [u32]
-    requires { ⌜ (j < columns) × (length (now t) ≡ columns * n) ⌝ }
+    requires { ⌜ Sized (now t) n × (j < columns) ⌝ }
     ensures { λ r. ⌜ (now r ≡ take n (drop (j * n) (now (t .entry)))) × (length (now r) ≡ n) × LiesAt r (t .entry) (j * n) ⌝ }
 {
     let from = j * n;
@@ -53,7 +53,7 @@ pub fn column<'a>(t: &'a [u32], n: usize, j: usize) -> &'a [u32]
 
 // The first numbers of a list into row k, from column j on.
 pub fn put_row(t: &mut [u32], n: usize, k: usize, j: usize, numbers: [u32; 7], count: usize)
-    requires { ⌜ (k < n) × (count ≤ 7) × (j + count ≤ columns) × (length (now t) ≡ columns * n) ⌝ }
+    requires { ⌜ Sized (now t) n × (k < n) × (count ≤ 7) × (j + count ≤ columns) ⌝ }
     ensures { λ _. ⌜ PutRow n k j (take count numbers) (now (t .entry)) (now (t .exit)) ⌝ }
 {
     let mut i = 0;

@@ -7,8 +7,9 @@ use Rattle.base.proofs.Once.{Once, _also_, both}
 use Rattle.model.specs.declared.task.Task.{Task}
 use Rattle.model.specs.Model.{noTask}
 use Rattle.tasklist.specs.declared.Stored.{Stored}
-use Rattle.tasklist.specs.Stored.{refusalIn, Filled, Stores}
+use Rattle.tasklist.specs.Stored.{refusalIn, Stores}
 use Rattle.tasklist.proofs.planned.Reads as planned
+use Rattle.tasklist.proofs.tasks_of.Reads as tasks-of
 use Rattle.tasklist.proofs.tasks_over.Reads as tasks-over
 
 -- an answer is a refusal and a count
@@ -22,14 +23,13 @@ planned-once κs args _ r r′ exit exit′ p q =
     let Q = q (replicate room noTask) (length-replicate room noTask) in
     stored-once r r′ (P .refusal ∙ sym (Q .refusal)) (P .count ∙ sym (Q .count))
 
+pub tasks-of-once : Once tasks-of.Pre tasks-of.Post (λ r exit. r)
+tasks-of-once κs args (ρ, T) r r′ exit exit′ p q = p ρ T ∙ sym (q ρ T)
+
 pub tasks-over-once : Once tasks-over.Pre tasks-over.Post (λ r exit. r)
-tasks-over-once κs args _ r r′ exit exit′ p q = λ κ. record { list = (p ∙ sym q) κ }
+tasks-over-once κs args _ r r′ exit exit′ p q = p ∙ sym q
 
--- Of `fill_tasks` and `decode_tasks`, whose contracts are the relations `Filled` and `Stores`: a function over a lent list of tasks has no
--- module `Reads`.
-pub fill-tasks-once : (file : List ℕ) (n : ℕ) (list after after′ : List Task) → Filled file n list after → Filled file n list after′ → after ≡ after′
-fill-tasks-once file n list after after′ p q = p ∙ sym q
-
+-- Of `decode_tasks`, whose contract is the relation `Stores`: a function over a lent list of tasks has no module `Reads`.
 pub decode-tasks-once : (file : List ℕ) (list after after′ : List Task) (r r′ : Stored) → Stores file list after r → Stores file list after′ r′
     → (r also after) ≡ (r′ also after′)
 decode-tasks-once file list after after′ r r′ p q =

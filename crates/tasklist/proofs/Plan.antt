@@ -14,7 +14,7 @@ use Rattle.model.specs.File.{read, decoded, decodedIf, decodedOf}
 use Rattle.openfile.specs.declared.head.Head.{Head}
 use Rattle.openfile.specs.declared.head.Opened.the-variants.{Refused, Whole}
 use Rattle.openfile.specs.Head.{openedOf, Tells}
-use Rattle.openfile.proofs.WholeOrRefused.{whole-tells, refused-tells, tells-task-count, tells-tasks, tells-few, tells-size}
+use Rattle.openfile.proofs.WholeOrRefused.{whole-tells, refused-tells, tells-task-count, tells-tasks, tells-size}
 use Rattle.tasklist.specs.declared.Stored.{Stored}
 use Rattle.tasklist.specs.Stored.{refusalSaid, countIf, countOf, roomIf, Rooms, Plans}
 
@@ -27,7 +27,6 @@ plan-refused b l ν i o =
       refusal = sym (ap (λ r. refusalSaid (decodedOf r l .refusal)) e);
       stored = sym (ap (λ r. decodedOf r l .list) e);
       count = sym (ap (λ r. countOf r (length l)) e);
-      few = omega arith;
       room = omega arith;
       there = omega arith;
     }
@@ -51,7 +50,6 @@ module _ (b : List ℕ) (l : List Task) (h : Head) (ρ : Run) (T : Tells b h ρ)
         refusal = sym (ap (λ x. refusalSaid (x .refusal)) d);
         stored = sym (ap (λ x. x .list) d);
         count = sym (counts ∙ ap (λ t. countIf t (length (ρ .tasks))) (tested false q));
-        few = omega arith;
         room = omega arith;
         there = omega arith;
       }
@@ -63,7 +61,6 @@ module _ (b : List ℕ) (l : List Task) (h : Head) (ρ : Run) (T : Tells b h ρ)
         refusal = sym (ap (λ x. refusalSaid (x .refusal)) d);
         stored = (λ κ. sym (tells-tasks T) κ ++ drop (tells-task-count T κ) l) ∙ sym (ap (λ x. x .list) d);
         count = sym (counts ∙ ap (λ t. countIf t (length (ρ .tasks))) (tested true q) ∙ sym (tells-task-count T));
-        few = omega (arith, tells-few T);
         room = m;
         there = omega (arith, tells-size T);
       }

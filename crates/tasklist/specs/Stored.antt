@@ -35,6 +35,11 @@ roomIf false n = record { number = 11; task = 0; count = 0 }
 abbrev pub Rooms : ℕ → ℕ → Stored → Type 0
 Rooms n room r = r ≡ roomIf (leb n room) n
 
+-- a file has the bytes of n tasks, and a list with room for m has room for them
+pub record HasTasks (b : List ℕ) (n m : ℕ) : Type 0 where
+  pub there : taskSize * n ≤ length b - (tasksPlace + 4)
+  pub room : n ≤ m
+
 -- the first n tasks of a file stored in a list: the entries past them keep their values
 abbrev pub Filled : List ℕ → ℕ → List Task → List Task → Type 0
 Filled b n before after = after ≡ tasksIn b n ++ drop n before
@@ -44,7 +49,6 @@ pub record Plans (b : List ℕ) (list : List Task) (r : Stored) : Type 0 where
   pub refusal : refusalIn r ≡ refusalSaid (decoded b list .refusal)
   pub stored : tasksIn b (r .count) ++ drop (r .count) list ≡ decoded b list .list
   pub count : r .count ≡ countOf (read b) (length list)
-  pub few : r .count ≤ 32
   pub room : r .count ≤ length list
   pub there : taskSize * r .count ≤ length b - (tasksPlace + 4)
 

@@ -1,17 +1,28 @@
 // Decoded tasks in a list that the caller lends, one entry a task.
+use model::TASKS;
 use model::Task;
-use model::Tasks;
+use openfile::Head;
 use openfile::Opened;
 use openfile::open_file;
-use runfile::task_in;
+use runfile::task_at;
 ghost use mathlib.Core.Path.{_≡_};
-ghost use mathlib.Core.List.{List};
-ghost use Prim.Native.Nat.{_+_, _-_, _*_, _≤_};
+ghost use mathlib.Core.List.{List, _++_};
+ghost use Prim.Native.Nat.{_-_};
 ghost use lib.ListN.{length, replicate};
 ghost use Rattle.model.specs.declared.task.Task.{Task as TaskValue};
-ghost use Rattle.model.specs.Model.{mostTasks};
-ghost use Rattle.model.specs.File.{tasksPlace, taskSize, decoded};
-ghost use Rattle.tasklist.specs.Stored.{Rooms, Filled, Plans, Stores};
+ghost use Rattle.model.specs.Model.{Run, mostTasks, noTask};
+ghost use Rattle.model.specs.File.{decoded};
+ghost use Rattle.openfile.specs.Head.{Tells};
+ghost use Rattle.tasklist.specs.Stored.{Rooms, HasTasks, Filled, Plans, Stores};
+
+// The task of zeros.
+const NO_TASK: Task = Task {
+    period: 0,
+    least: 0,
+    greatest: 0,
+    offset: 0,
+    jitter: 0,
+};
 
 // What a decoding answers: the refusal's number and task, or number 0; and how many tasks it stored.
 pub struct Stored {
@@ -54,13 +65,13 @@ pub fn planned(file: &[u8], room: usize) -> Stored
 }
 
 // The first n tasks of the file into the list; the entries past them keep their values.
-pub fn fill_tasks(file: &[u8], list: &mut [Task], n: usize)
-    requires { ⌜ (n ≤ mostTasks) × (n ≤ length (now list)) × (taskSize * n ≤ length (now file) - (tasksPlace + 4)) ⌝ }
+fn fill_tasks(file: &[u8], list: &mut [Task], n: usize)
+    requires { ⌜ HasTasks (now file) n (length (now list)) ⌝ }
     ensures { λ _. ⌜ Filled (now (file .entry)) n (now (list .entry)) (now (list .exit)) ⌝ }
 {
     let mut i = 0;
     while i < n {
-        list[i] = task_in(file, i);
+        list[i] = task_at(file, i);
         i += 1;
     }
 }
@@ -75,21 +86,29 @@ pub fn decode_tasks(file: &[u8], list: &mut [Task]) -> Stored
     d
 }
 
-// The tasks of a file in a list that is given by value and lent to the decoding.
-fn list_of(file: &[u8], list: [Task; 32]) -> [Task; 32]
-    ensures { λ r. ⌜ r ≡ decoded (now (file .entry)) list .list ⌝ }
+// The first n tasks of a file over the front of a list that is given by value, and lent for it.
+fn filled(file: &[u8], n: usize, list: [Task; TASKS]) -> [Task; TASKS]
+    requires { ⌜ HasTasks (now file) n mostTasks ⌝ }
+    ensures { λ r. ⌜ Filled (now (file .entry)) n list r ⌝ }
 {
     let mut own = list;
-    let d = decode_tasks(file, &mut own);
+    fill_tasks(file, &mut own, n);
     own
 }
 
-// The tasks of a file as a value, decoded into a list of 32 that is filled with one task: that task after the file's, and nothing else
-// if the file is refused.
-pub fn tasks_over(file: &[u8], fill: Task) -> Tasks
-    ensures { λ r. ⌜ r .list ≡ decoded (now (file .entry)) (replicate 32 fill) .list ⌝ }
+// The tasks of a file that is whole, in a list with tasks of zeros after them.
+pub fn tasks_of(file: &[u8], head: Head) -> [Task; TASKS]
+    requires { ⌜ ((ρ : Run) × Tells (now file) head ρ) ⌝ }
+    ensures { λ r. ⌜ ((ρ : Run) → Tells (now (file .entry)) head ρ → r ≡ ρ .tasks ++ replicate (mostTasks - length (ρ .tasks)) noTask) ⌝ }
 {
-    let filled = [fill; 32];
-    let list = list_of(file, filled);
-    Tasks { list: list }
+    filled(file, head.tasks as usize, [NO_TASK; TASKS])
+}
+
+// The tasks of a file as a value, decoded into a list that is filled with one task: that task after the file's, and nothing else if the
+// file is refused.
+pub fn tasks_over(file: &[u8], fill: Task) -> [Task; TASKS]
+    ensures { λ r. ⌜ r ≡ decoded (now (file .entry)) (replicate mostTasks fill) .list ⌝ }
+{
+    let d = planned(file, TASKS);
+    filled(file, d.count, [fill; TASKS])
 }

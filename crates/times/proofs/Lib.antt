@@ -1,4 +1,3 @@
 pub mod TimesOfRecord
 pub mod RowAfterRow
-pub mod StageValue
 pub mod Once

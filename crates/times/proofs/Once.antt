@@ -4,5 +4,5 @@ use Rattle.base.proofs.Once.{Once}
 use Rattle.table.proofs.LentLaws.{loads-same}
 use Rattle.times.proofs.fill_times.Reads as fill-times
 
-pub fill-times-once : Once fill-times.Pre fill-times.Post (λ r exit. now (exit .1 .1 .1 .0))
-fill-times-once κs args (few, there, (σ, I)) r r′ exit exit′ p q = loads-same (p σ I) (q σ I)
+pub fill-times-once : Once fill-times.Pre fill-times.Post (λ r exit. now (exit .1 .1 .0))
+fill-times-once κs args (σ, I) r r′ exit exit′ p q = loads-same (p σ I) (q σ I)

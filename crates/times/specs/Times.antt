@@ -3,10 +3,11 @@
 use Prim.Native.Nat.{ℕ, _≤_}
 use lib.ListN.{getD}
 use mathlib.Core.Path.{_≡_}
-use mathlib.Core.List.{List, _++_}
+use mathlib.Core.List.{List}
 use Rattle.model.specs.declared.task.Task.{Task}
 use Rattle.model.specs.Model.{Run}
 use Rattle.model.specs.Rules.{Jobs}
+use Rattle.openfile.specs.Head.{Leads}
 use Rattle.table.specs.Table.{Lent}
 use Rattle.times.specs.declared.Stage.{Stage}
 use Rattle.times.specs.declared.Stage.the-variants.{Release, Length, Order}
@@ -26,15 +27,8 @@ upTo Order = 13
 pub record KeptFrom (from : ℕ) (t t′ : List ℕ) : Type 0 where
   pub kept : (p : ℕ) → from ≤ p → getD t′ p 0 ≡ getD t p 0
 
--- The table of a run that obeys rule 1, with its first m columns: these are its tasks.
-pub record Listed (σ : Run) (τs : List Task) (m : ℕ) (t : List ℕ) (n : ℕ) : Type 0 where
-  pub tasks : σ .tasks ≡ τs
-  pub jobs : Jobs σ
-  pub table : Lent m σ t n
-
--- The same with a list that has more entries after its tasks.
-pub record Leads (σ : Run) (list : List Task) (m : ℕ) (t : List ℕ) (n : ℕ) : Type 0 where
-  pub rest : List Task
-  pub tasks : list ≡ σ .tasks ++ rest
+-- The table of a run that obeys rule 1, with its first m columns, and a list that begins with its tasks.
+pub record Listed (σ : Run) (list : List Task) (m : ℕ) (t : List ℕ) (n : ℕ) : Type 0 where
+  pub tasks : Leads σ list
   pub jobs : Jobs σ
   pub table : Lent m σ t n

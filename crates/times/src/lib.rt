@@ -1,4 +1,5 @@
 // The times of each record, from the tasks of the file: they stand in a list that is lent, and the rules then run over columns alone.
+use model::TASKS;
 use model::Task;
 use table::DUE;
 use table::EARLIEST;
@@ -6,24 +7,12 @@ use table::JOB;
 use table::LEAST;
 use table::RELEASE;
 use table::put_row;
-use tasklist::fill_tasks;
 ghost use mathlib.Core.Path.{_≡_};
-ghost use Prim.Native.Nat.{_+_, _*_, _-_, _≤_, _<_};
-ghost use lib.ListN.{length};
-ghost use Rattle.model.specs.File.{tasksIn, tasksPlace, taskSize};
-ghost use Rattle.model.specs.Model.{Run, taskOf, mostTasks};
+ghost use Prim.Native.Nat.{_+_, _*_, _<_};
+ghost use Rattle.model.specs.Model.{Run, taskOf};
 ghost use Rattle.model.specs.Rules.{Jobs};
 ghost use Rattle.table.specs.Table.{Rows, Loads};
-ghost use Rattle.times.specs.Times.{begins, upTo, KeptFrom, Listed, Leads};
-
-// The task of zeros.
-const NO_TASK: Task = Task {
-    period: 0,
-    least: 0,
-    greatest: 0,
-    offset: 0,
-    jitter: 0,
-};
+ghost use Rattle.times.specs.Times.{begins, upTo, KeptFrom, Listed};
 
 // What is filled in at once: until when a record may be released, how long it may last, what its order goes by.
 pub enum Stage {
@@ -63,8 +52,8 @@ fn put_times(stage: Stage, task: Task, t: &mut [u32], n: usize, k: usize)
 
 // The times of all records that a stage fills in, from a lent list of tasks.
 fn times_from(stage: Stage, tasks: &[Task], t: &mut [u32], n: usize)
-    requires { ⌜ ((σ : Run) × Leads σ (now tasks) (begins stage) (now t) n) ⌝ }
-    ensures { λ _. ⌜ ((σ : Run) → Leads σ (now (tasks .entry)) (begins stage) (now (t .entry)) n → Loads (upTo stage) σ n (now (t .entry)) (now (t .exit))) ⌝ }
+    requires { ⌜ ((σ : Run) × Listed σ (now tasks) (begins stage) (now t) n) ⌝ }
+    ensures { λ _. ⌜ ((σ : Run) → Listed σ (now (tasks .entry)) (begins stage) (now (t .entry)) n → Loads (upTo stage) σ n (now (t .entry)) (now (t .exit))) ⌝ }
 {
     let mut k = 0;
     while k < n {
@@ -73,14 +62,10 @@ fn times_from(stage: Stage, tasks: &[Task], t: &mut [u32], n: usize)
     }
 }
 
-// The times of all records that a stage fills in, from the tasks of a file.
-pub fn fill_times(stage: Stage, file: &[u8], tasks: usize, t: &mut [u32], n: usize)
-    requires { ⌜ (tasks ≤ mostTasks) × (taskSize * tasks ≤ length (now file) - (tasksPlace + 4))
-        × ((σ : Run) × Listed σ (tasksIn (now file) tasks) (begins stage) (now t) n) ⌝ }
-    ensures { λ _. ⌜ ((σ : Run) → Listed σ (tasksIn (now (file .entry)) tasks) (begins stage) (now (t .entry)) n
-        → Loads (upTo stage) σ n (now (t .entry)) (now (t .exit))) ⌝ }
+// The times of all records that a stage fills in, from a list of tasks that is given by value, and lent for it.
+pub fn fill_times(stage: Stage, tasks: [Task; TASKS], t: &mut [u32], n: usize)
+    requires { ⌜ ((σ : Run) × Listed σ tasks (begins stage) (now t) n) ⌝ }
+    ensures { λ _. ⌜ ((σ : Run) → Listed σ tasks (begins stage) (now (t .entry)) n → Loads (upTo stage) σ n (now (t .entry)) (now (t .exit))) ⌝ }
 {
-    let mut list = [NO_TASK; 32];
-    fill_tasks(file, &mut list, tasks);
-    times_from(stage, &list, t, n);
+    times_from(stage, &tasks, t, n);
 }

@@ -1,5 +1,4 @@
 pub mod RulesFrom
 pub mod Lateness
 pub mod Tied
-pub mod Told
 pub mod Once

@@ -4,4 +4,4 @@ use Rattle.model.proofs.Once.{five-once}
 use Rattle.verdict.proofs.run.judge_run.Reads as judge-run
 
 pub judge-run-once : Once judge-run.Pre judge-run.Post (λ r exit. r)
-judge-run-once κs args (ρ, T) r r′ exit exit′ p q = five-once r r′ _ (p ρ T) (q ρ T)
+judge-run-once κs args (ρ, T, L) r r′ exit exit′ p q = five-once r r′ _ (p ρ T L) (q ρ T L)

@@ -2,9 +2,10 @@
 use base::Found;
 use model::Answer;
 ghost use mathlib.Core.Path.{_≡_};
-ghost use mathlib.Core.List.{List};
+ghost use mathlib.Core.List.{List, [], _∷_};
 ghost use Prim.Native.Nat.{ℕ, _+_, _≤_, _<_};
 ghost use lib.ListN.{length, getD};
+ghost use Rattle.base.specs.Columns.{Columns};
 ghost use Rattle.model.specs.Answers.{fiveOf};
 ghost use Rattle.model.specs.Model.{mostRecords};
 ghost use Rattle.verdict.specs.Late.{LateOf, orThis, timelyIn};
@@ -48,7 +49,7 @@ fn late_with(late: Late, horizon: u32, k: u32, due: u32, start: u32, end: u32) -
 }
 
 fn late_records(horizon: u32, due: &[u32], start: &[u32], end: &[u32]) -> Late
-    requires { ⌜ (length (now due) ≡ length (now end)) × (length (now start) ≡ length (now end)) × (length (now end) ≤ mostRecords) ⌝ }
+    requires { ⌜ Columns mostRecords (now end) (now due ∷ now start ∷ []) ⌝ }
     ensures { λ r. ⌜ LateOf horizon (now (due .entry)) (now (start .entry)) (now (end .entry)) (length (now (end .entry))) r ⌝ }
 {
     let mut late = Late {
@@ -66,7 +67,7 @@ fn late_records(horizon: u32, due: &[u32], start: &[u32], end: &[u32]) -> Late
 
 // Answer 0, 1 or 2.
 pub(crate) fn timely(horizon: u32, due: &[u32], start: &[u32], end: &[u32]) -> Answer
-    requires { ⌜ (length (now due) ≡ length (now end)) × (length (now start) ≡ length (now end)) × (length (now end) ≤ mostRecords) ⌝ }
+    requires { ⌜ Columns mostRecords (now end) (now due ∷ now start ∷ []) ⌝ }
     ensures { λ r. ⌜ fiveOf r ≡ timelyIn horizon (now (due .entry)) (now (start .entry)) (now (end .entry)) ⌝ }
 {
     let late = late_records(horizon, due, start, end);

@@ -14,6 +14,8 @@ use loadrun::jobs_place;
 use loadrun::read_table;
 use model::Answer;
 use model::Setting;
+use model::TASKS;
+use model::Task;
 use openfile::Head;
 use table::COLUMNS;
 use table::DUE;
@@ -25,15 +27,12 @@ use table::column;
 use times::Stage;
 use times::fill_times;
 ghost use mathlib.Core.Path.{_≡_};
-ghost use Prim.Native.Nat.{_*_};
-ghost use lib.ListN.{length};
 ghost use Rattle.model.specs.Answers.{fiveOf};
 ghost use Rattle.model.specs.Compute.Verdict.{verdict};
 ghost use Rattle.model.specs.Model.{Run};
-ghost use Rattle.openfile.specs.Head.{Tells};
-ghost use Rattle.table.specs.Table.{Lent, columns};
-ghost use Rattle.model.specs.Rules.{Jobs};
-ghost use Rattle.times.specs.Times.{upTo};
+ghost use Rattle.openfile.specs.Head.{Tells, Leads};
+ghost use Rattle.table.specs.Table.{Sized, Lent, columns};
+ghost use Rattle.times.specs.Times.{upTo, Listed};
 ghost use Rattle.verdict.specs.RulesFrom.{verdictFrom};
 
 // From rule 7 on, and then the late records.
@@ -56,15 +55,11 @@ fn judge_order(setting: Setting, t: &[u32], n: usize) -> Answer
 }
 
 // From rule 4 on: how long a record may last is filled in first, and what its order goes by once 4 to 6 hold.
-fn judge_lengths(file: &[u8], head: Head, t: &mut [u32]) -> Answer
-    requires { ⌜ ((ρ : Run) × Tells (now file) head ρ × Jobs ρ × Lent (upTo Stage.Release) ρ (now t) (head .records)) ⌝ }
-    ensures { λ r. ⌜ ((ρ : Run) → Tells (now (file .entry)) head ρ → Jobs ρ → Lent (upTo Stage.Release) ρ (now (t .entry)) (head .records)
-        → fiveOf r ≡ verdictFrom 4 ρ) ⌝ }
+fn judge_lengths(setting: Setting, tasks: [Task; TASKS], t: &mut [u32], n: usize) -> Answer
+    requires { ⌜ ((ρ : Run) × Listed ρ tasks (upTo Stage.Release) (now t) n × (setting ≡ ρ .setting)) ⌝ }
+    ensures { λ r. ⌜ ((ρ : Run) → Listed ρ tasks (upTo Stage.Release) (now (t .entry)) n → setting ≡ ρ .setting → fiveOf r ≡ verdictFrom 4 ρ) ⌝ }
 {
-    let n = head.records as usize;
-    let tasks = head.tasks as usize;
-    let setting = head.setting;
-    fill_times(Stage::Length, file, tasks, t, n);
+    fill_times(Stage::Length, tasks, t, n);
     let wrong_length = lasted(t, n);
     let no_core = on_core(t, n, setting.cores);
     if let Found::At(k) = wrong_length {
@@ -76,40 +71,40 @@ fn judge_lengths(file: &[u8], head: Head, t: &mut [u32]) -> Answer
     if let FoundTwo::At(a, b) = overlapping(t, n) {
         return Answer::RuleBroken(6, a, b, 0);
     }
-    fill_times(Stage::Order, file, tasks, t, n);
+    fill_times(Stage::Order, tasks, t, n);
     judge_order(setting, t, n)
 }
 
 // All rules, with a table for the records of the file.
-fn judge_table(file: &[u8], head: Head, t: &mut [u32]) -> Answer
-    requires { ⌜ (length (now t) ≡ columns * head .records) × ((ρ : Run) × Tells (now file) head ρ) ⌝ }
-    ensures { λ r. ⌜ ((ρ : Run) → Tells (now (file .entry)) head ρ → fiveOf r ≡ verdict ρ) ⌝ }
+fn judge_table(file: &[u8], head: Head, tasks: [Task; TASKS], t: &mut [u32]) -> Answer
+    requires { ⌜ Sized (now t) (head .records) × ((ρ : Run) × Tells (now file) head ρ × Leads ρ tasks) ⌝ }
+    ensures { λ r. ⌜ ((ρ : Run) → Tells (now (file .entry)) head ρ → Leads ρ tasks → fiveOf r ≡ verdict ρ) ⌝ }
 {
     let n = head.records as usize;
     read_table(file, head, t);
-    if let Found::At(k) = jobs_place(file, head, t) {
+    if let Found::At(k) = jobs_place(head, tasks, t) {
         return Answer::RuleBroken(1, k, 0, 0);
     }
-    fill_times(Stage::Release, file, head.tasks as usize, t, n);
+    fill_times(Stage::Release, tasks, t, n);
     if let Found::At(k) = released(t, n) {
         return Answer::RuleBroken(2, k, 0, 0);
     }
     if let Found::At(k) = started(t, n) {
         return Answer::RuleBroken(3, k, 0, 0);
     }
-    judge_lengths(file, head, t)
+    judge_lengths(head.setting, tasks, t, n)
 }
 
 // All rules in order: the lowest broken one, or what is late. A small file has a small table.
-pub fn judge_run(file: &[u8], head: Head) -> Answer
-    requires { ⌜ ((ρ : Run) × Tells (now file) head ρ) ⌝ }
-    ensures { λ r. ⌜ ((ρ : Run) → Tells (now (file .entry)) head ρ → fiveOf r ≡ verdict ρ) ⌝ }
+pub fn judge_run(file: &[u8], head: Head, tasks: [Task; TASKS]) -> Answer
+    requires { ⌜ ((ρ : Run) × Tells (now file) head ρ × Leads ρ tasks) ⌝ }
+    ensures { λ r. ⌜ ((ρ : Run) → Tells (now (file .entry)) head ρ → Leads ρ tasks → fiveOf r ≡ verdict ρ) ⌝ }
 {
     let n = head.records as usize;
     if n <= FEW {
         let mut few = [0u32; COLUMNS * FEW];
-        return judge_table(file, head, &mut few[..COLUMNS * n]);
+        return judge_table(file, head, tasks, &mut few[..COLUMNS * n]);
     }
     let mut table = [0u32; COLUMNS * MOST];
-    judge_table(file, head, &mut table[..COLUMNS * n])
+    judge_table(file, head, tasks, &mut table[..COLUMNS * n])
 }

@@ -6,10 +6,10 @@ use native.Mathlib.Numerals.{add-one}
 use native.Mathlib.Omega.{arith}
 use lib.ListN.{length, getD, take, length-append}
 use lib.Seq.{take-suc, take-length}
+use Rattle.model.specs.declared.task.Task.{Task}
 use Rattle.model.specs.Model.{Run, mostTasks, task, rec, noTask, noRecord}
-use Rattle.model.specs.File.{bytes, bytesOf, joined, settingNumbers, taskNumbers, recordNumbers, taskAt, tasksPlace, taskSize}
+use Rattle.model.specs.File.{bytes, bytesOf, joined, settingNumbers, taskNumbers, recordNumbers}
 use Rattle.model.specs.Calls.{front}
-use Rattle.model.proofs.Reading.{length-entries, entries-at}
 use Rattle.openfile.specs.declared.head.Head.{Head}
 use Rattle.table.specs.Table.{recorded, numberAt}
 use Rattle.wire.specs.Put.{put}
@@ -80,42 +80,37 @@ module _ {A : Type 0} (f : A → List ℕ) (d : A) (row : ℕ → List ℕ) (xs 
 
 -- The file of a run.
 -- ------------------
-module _ {b : List ℕ} {h : Head} {H : ℕ} {t : List ℕ} {m : ℕ} {σ : Run} (T : Tabled b h H t m σ) where
-  task-count-is : length (σ .tasks) ≡ h .tasks
-  task-count-is = ap length (T .tasks) ∙ length-entries (taskAt b) taskSize (tasksPlace + 4) (h .tasks)
-
+module _ {h : Head} {H : ℕ} {l : List Task} {t : List ℕ} {m : ℕ} {σ : Run} (T : Tabled h H l t m σ) where
   pub few-tasks : h .tasks ≤ mostTasks
-  few-tasks = omega (arith, task-count-is, T .table .limits .task-count .1)
+  few-tasks = omega (arith, T .task-count, T .table .limits .task-count .1)
 
-  task-is : (k : ℕ) → k < length (σ .tasks) → taskRow b k ≡ taskNumbers (task (σ .tasks) k)
+  task-is : (k : ℕ) → k < length (σ .tasks) → taskRow l k ≡ taskNumbers (task (σ .tasks) k)
   unfolding taskRow
-  task-is k l =
-      let i : k < h .tasks = omega (arith, task-count-is) in
-      sym (ap taskNumbers (ap (λ τs. task τs k) (T .tasks) ∙ entries-at (taskAt b) taskSize (tasksPlace + 4) (h .tasks) k noTask i))
+  task-is k i = ap taskNumbers (T .tasks .each k i)
 
   record-is : (k : ℕ) → k < length (σ .records) → recordRow t m k ≡ recordNumbers (rec σ k)
   unfolding recordRow
-  record-is k l =
+  record-is k r =
       let i : k < m = omega (arith, T .table .count) in
       let at : (j : ℕ) → j < recorded → getD t (j * m + k) 0 ≡ numberAt σ j k = λ j u. T .table .number j k u i in
       rw (at 0 (omega arith), at 1 (omega arith), at 2 (omega arith), at 3 (omega arith), at 4 (omega arith), at 5 (omega arith))
 
   abbrev written : List ℕ
-  written = (2 ∷ h .setting .cores ∷ H ∷ h .tasks ∷ []) ++ rows (taskRow b) (h .tasks) ++ (m ∷ []) ++ rows (recordRow t m) m
+  written = (2 ∷ h .setting .cores ∷ H ∷ h .tasks ∷ []) ++ rows (taskRow l) (h .tasks) ++ (m ∷ []) ++ rows (recordRow t m) m
 
   bytes-are : bytesOf written ≡ bytes σ
   unfolding bytes
   bytes-are =
-      let tasks = rows-joined taskNumbers noTask (taskRow b) (σ .tasks) task-is (h .tasks) (sym task-count-is) in
+      let tasks = rows-joined taskNumbers noTask (taskRow l) (σ .tasks) task-is (h .tasks) (T .task-count) in
       let records = rows-joined recordNumbers noRecord (recordRow t m) (σ .records) record-is m (T .table .count) in
       let after : List ℕ = length (σ .records) ∷ joined recordNumbers (σ .records) in
       let e : written ≡ 2 ∷ settingNumbers (σ .setting) ++ (length (σ .tasks) ∷ joined taskNumbers (σ .tasks)) ++ after =
-      rw (tasks, records, append-assoc (joined taskNumbers (σ .tasks)), T .setting, task-count-is, T .table .count) in
+      rw (tasks, records, append-assoc (joined taskNumbers (σ .tasks)), T .setting, T .task-count, T .table .count) in
       ap bytesOf e
 
   -- the head, the tasks, the record count and the records, one after the other
   pub wrote-run : {s u v w x : List ℕ} {i j j′ k o : ℕ} → Wrote s 0 (2 ∷ h .setting .cores ∷ H ∷ h .tasks ∷ []) u i
-      → Wrote u i (rows (taskRow b) (h .tasks)) v j → j′ ≡ j → Wrote v j′ (m ∷ []) w k → Wrote w k (rows (recordRow t m) m) x o
+      → Wrote u i (rows (taskRow l) (h .tasks)) v j → j′ ≡ j → Wrote v j′ (m ∷ []) w k → Wrote w k (rows (recordRow t m) m) x o
       → x ≡ front (bytes σ) s
   wrote-run {s} p q e r o =
       wrote-more (wrote-more (wrote-more p q) (rw e at r)) o .slice ∙ puts-front written [] s 0 refl ∙ ap (λ bs. front bs s) bytes-are

@@ -4,7 +4,9 @@ use mathlib.Core.Path.{_≡_}
 use mathlib.Core.List.{List, [], _∷_, _++_}
 use lib.ListN.{length, getD}
 use Rattle.model.specs.declared.record.Record.{Record}
-use Rattle.model.specs.File.{taskNumbers, recordNumbers, taskAt, recordsPlace}
+use Rattle.model.specs.declared.task.Task.{Task}
+use Rattle.model.specs.File.{taskNumbers, recordNumbers}
+use Rattle.model.specs.Model.{task}
 use Rattle.wire.specs.Put.{put}
 
 -- numbers put one after the other
@@ -35,9 +37,9 @@ recordIn t n k =
       core = getD t (5 * n + k) 0;
     }
 
--- task i of a file, and record k of a table, as rows
-unfoldable pub taskRow : List ℕ → ℕ → List ℕ
-taskRow b i = taskNumbers (taskAt b (recordsPlace i))
+-- task i of a list, and record k of a table, as rows
+unfoldable pub taskRow : List Task → ℕ → List ℕ
+taskRow l i = taskNumbers (task l i)
 
 unfoldable pub recordRow : List ℕ → ℕ → ℕ → List ℕ
 recordRow t n k = recordNumbers (recordIn t n k)

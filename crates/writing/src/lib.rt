@@ -1,10 +1,10 @@
-// A run as a run file: the tasks of another file, and the records of a table, written to the front of an output.
+// A run as a run file: the tasks of a list, and the records of a table, written to the front of an output.
 use model::Record;
+use model::TASKS;
 use model::Task;
 use openfile::Head;
 use runfile::RECORD_SIZE;
 use runfile::records_place;
-use runfile::task_at;
 use table::CORE;
 use table::END;
 use table::JOB;
@@ -18,8 +18,8 @@ ghost use Prim.Native.Nat.{_+_, _*_, _≤_, _<_};
 ghost use lib.ListN.{length, take};
 ghost use Rattle.model.specs.Calls.{front};
 ghost use Rattle.model.specs.File.{bytes, taskNumbers, recordNumbers, tasksPlace, recordsPlace, taskSize, recordSize, sizeOf, longestFile};
-ghost use Rattle.model.specs.Model.{Run, mostTasks, mostRecords};
-ghost use Rattle.table.specs.Table.{columns};
+ghost use Rattle.model.specs.Model.{Run, mostTasks};
+ghost use Rattle.table.specs.Table.{Sized};
 ghost use Rattle.writing.specs.WrittenRows.{Wrote, rows, recordIn, taskRow, recordRow};
 ghost use Rattle.writing.specs.RunOfTable.{Tabled};
 
@@ -56,14 +56,14 @@ fn write_task(t: Task, at: usize, output: &mut [u8])
     );
 }
 
-// Writes the first n tasks of a file after the head.
-fn write_tasks(file: &[u8], n: u32, output: &mut [u8])
+// Writes the first n tasks of a list after the head.
+fn write_tasks(tasks: [Task; TASKS], n: u32, output: &mut [u8])
     requires { ⌜ (n ≤ mostTasks) × (recordsPlace n ≤ length (now output)) ⌝ }
-    ensures { λ _. ⌜ Wrote (now (output .entry)) (tasksPlace + 4) (rows (taskRow (now (file .entry))) n) (now (output .exit)) (recordsPlace n) ⌝ }
+    ensures { λ _. ⌜ Wrote (now (output .entry)) (tasksPlace + 4) (rows (taskRow tasks) n) (now (output .exit)) (recordsPlace n) ⌝ }
 {
     let mut i = 0;
     while i < n {
-        write_task(task_at(file, i), records_place(i), output);
+        write_task(tasks[i as usize], records_place(i), output);
         i += 1;
     }
 }
@@ -83,7 +83,7 @@ fn write_record(x: Record, at: usize, output: &mut [u8])
 
 // Record k of a table.
 fn record_in(t: &[u32], n: usize, k: usize) -> Record
-    requires { ⌜ (k < n) × (n ≤ mostRecords) × (length (now t) ≡ columns * n) ⌝ }
+    requires { ⌜ Sized (now t) n × (k < n) ⌝ }
     ensures { λ r. ⌜ r ≡ recordIn (now (t .entry)) n k ⌝ }
 {
     Record {
@@ -98,7 +98,7 @@ fn record_in(t: &[u32], n: usize, k: usize) -> Record
 
 // Writes the records of a table from a place on.
 fn write_records(t: &[u32], n: usize, at: usize, output: &mut [u8])
-    requires { ⌜ (n ≤ mostRecords) × (length (now t) ≡ columns * n) × (at ≤ longestFile) × (at + recordSize * n ≤ length (now output)) ⌝ }
+    requires { ⌜ Sized (now t) n × (at ≤ longestFile) × (at + recordSize * n ≤ length (now output)) ⌝ }
     ensures { λ _. ⌜ Wrote (now (output .entry)) at (rows (recordRow (now (t .entry)) n) n) (now (output .exit)) (at + recordSize * n) ⌝ }
 {
     let mut k = 0;
@@ -108,17 +108,24 @@ fn write_records(t: &[u32], n: usize, at: usize, output: &mut [u8])
     }
 }
 
-// Writes the whole file of a run that has the tasks of another file, and its records in a table.
-pub fn write_run(file: &[u8], head: Head, horizon: u32, t: &[u32], n: usize, output: &mut [u8])
-    requires { ⌜ (sizeOf (head .tasks) n ≤ length (now output)) × ((σ : Run) × Tabled (now file) head horizon (now t) n σ) ⌝ }
-    ensures { λ _. ⌜ ((σ : Run) → Tabled (now (file .entry)) head horizon (now (t .entry)) n σ
+// Writes the whole file of a run that has its tasks in a list, and its records in a table.
+pub fn write_run(
+    head: Head,
+    horizon: u32,
+    tasks: [Task; TASKS],
+    t: &[u32],
+    n: usize,
+    output: &mut [u8],
+)
+    requires { ⌜ (sizeOf (head .tasks) n ≤ length (now output)) × ((σ : Run) × Tabled head horizon tasks (now t) n σ) ⌝ }
+    ensures { λ _. ⌜ ((σ : Run) → Tabled head horizon tasks (now (t .entry)) n σ
         → now (output .exit) ≡ front (bytes σ) (now (output .entry))) ⌝ }
 {
     let setting = head.setting;
-    let tasks = head.tasks;
-    let at = records_place(tasks);
-    write_head(setting.cores, horizon, tasks, output);
-    write_tasks(file, tasks, output);
+    let count = head.tasks;
+    let at = records_place(count);
+    write_head(setting.cores, horizon, count, output);
+    write_tasks(tasks, count, output);
     put_u32(output, at, n as u32);
     write_records(t, n, at + 4, output);
 }

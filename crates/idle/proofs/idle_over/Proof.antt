@@ -17,7 +17,13 @@ abbrev μ-loop : tie.MeasureT-loop
 
 first-idle-requires : tie.Need-first-idle-requires Inv-loop μ-loop
 first-idle-requires c κs =
-    (search needs, search needs, search needs, search needs, c .before .before .before .before .before .all-begun .ensures, c .before .before .before .before .before .before .before .before .idle-until .ensures)
+    record {
+      few = search needs;
+      beside = search needs;
+      room = search needs;
+      starts = c .before .before .before .before .before .all-begun .ensures;
+      untils = c .before .before .before .before .before .before .before .before .idle-until .ensures;
+    }
 
 returns : tie.Need-returns Inv-loop μ-loop
 unfolding idleIn

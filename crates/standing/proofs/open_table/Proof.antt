@@ -1,5 +1,5 @@
 use Rattle.model.specs.Carry.{opening}
-use Rattle.standing.proofs.NextAsks.{stands-jobs, stands-few, stands-there, stands-listed}
+use Rattle.standing.proofs.NextAsks.{stands-jobs, stands-listed}
 use borrow.Author.Needs.{needs}
 use Rattle.standing.proofs.open_table.Statement.{statement}
 use Rattle.standing.proofs.open_table.Tie as tie
@@ -15,29 +15,29 @@ open-records-requires c κs =
 
 fill-times-requires : tie.Need-fill-times-requires
 fill-times-requires c κs =
-    let opened = c .before .before .before .before in
+    let opened = c .before .before .before in
     let listed = opened .before .before .before .before in
     let (ρ, C) = listed .before .before .before .before .pre .1 in
-    (stands-few C, stands-there C, (opening ρ _, stands-listed C (opened .open-records .ensures ρ _ C (listed .list-jobs .ensures (opening ρ _) (stands-jobs C)))))
+    (opening ρ _, stands-listed C (opened .open-records .ensures ρ _ C (listed .list-jobs .ensures (opening ρ _) (stands-jobs C))))
 
 fill-times-requires-2 : tie.Need-fill-times-requires-2
 fill-times-requires-2 c κs =
     let released = c .before .before .before in
-    let (few, there, (σ, L)) = fill-times-requires (released .before) (released .fill-times .lifetimes) in
-    (few, there, (σ, record { tasks = L .tasks; jobs = L .jobs; table = released .fill-times .ensures σ L .lent }))
+    let (σ, L) = fill-times-requires (released .before) (released .fill-times .lifetimes) in
+    (σ, record { tasks = L .tasks; jobs = L .jobs; table = released .fill-times .ensures σ L .lent })
 
 fill-times-requires-3 : tie.Need-fill-times-requires-3
 fill-times-requires-3 c κs =
     let lasting = c .before .before .before in
-    let (few, there, (σ, L)) = fill-times-requires-2 (lasting .before) (lasting .fill-times2 .lifetimes) in
-    (few, there, (σ, record { tasks = L .tasks; jobs = L .jobs; table = lasting .fill-times2 .ensures σ L .lent }))
+    let (σ, L) = fill-times-requires-2 (lasting .before) (lasting .fill-times2 .lifetimes) in
+    (σ, record { tasks = L .tasks; jobs = L .jobs; table = lasting .fill-times2 .ensures σ L .lent })
 
 returns : tie.Need-returns
 returns c ρ C =
     let ordered = c .before .before in
     let lasting = ordered .before .before .before .before in
     let released = lasting .before .before .before .before in
-    let opened = released .before .before .before .before .before in
+    let opened = released .before .before .before .before in
     let listed = opened .before .before .before .before in
     let table = opened .open-records .ensures ρ _ C (listed .list-jobs .ensures (opening ρ _) (stands-jobs C)) in
     let releases = released .fill-times .ensures (opening ρ _) (stands-listed C table) in
@@ -50,7 +50,6 @@ open-table-spec =
     (tie.spec
     list-jobs-requires
     open-records-requires
-    (λ c. search needs)
     fill-times-requires
     fill-times-requires-2
     fill-times-requires-3

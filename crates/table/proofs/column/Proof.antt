@@ -11,16 +11,16 @@ use Rattle.table.proofs.column.Statement.{statement}
 use Rattle.table.proofs.column.Tie as tie
 
 mul-from : tie.Need-mul-from
-mul-from c = omega (arith, column-within columns (c .args .j) (c .args .n) (c .pre .0))
+mul-from c = omega (arith, column-within columns (c .args .j) (c .args .n) (c .pre .1))
 
 add-result : tie.Need-add-result
-add-result c = omega (arith, column-within columns (c .args .j) (c .args .n) (c .pre .0))
+add-result c = omega (arith, column-within columns (c .args .j) (c .args .n) (c .pre .1))
 
 mul-result : tie.Need-mul-result
-mul-result c = omega (arith, column-within columns (c .args .j) (c .args .n) (c .pre .0))
+mul-result c = omega (arith, column-within columns (c .args .j) (c .args .n) (c .pre .1))
 
 part-result-end : tie.Need-part-result-end
-part-result-end c = omega (arith, column-within columns (c .args .j) (c .args .n) (c .pre .0))
+part-result-end c = omega (arith, column-within columns (c .args .j) (c .args .n) (c .pre .1))
 
 returns : tie.Need-returns
 returns c =
@@ -28,7 +28,7 @@ returns c =
     let j = s .args .j in
     let n = s .args .n in
     let part = drop (j * n) (now (s .args .t)) in
-    let w = column-within columns j n (s .pre .0) in
+    let w = column-within columns j n (s .pre .1) in
     let e : j * n + n - j * n ≡ n = omega arith in
     let p = ap (λ m. take m part) e in
     (p, ap length p ∙ length-take-le n part (simp length-drop (omega arith)), record { block = refl; place = refl })

@@ -1,12 +1,10 @@
 -- `tasklist::decode_tasks` meets its contract: a walk of its MIR. `planned` is called on the file and the list's count, and then the list is passed on to `fill_tasks`, for good: it goes to the callee at its own lifetime, share and name.
 -- Assumes nothing.
-use Rattle.reader.proofs.Walk.{_≡_, refl, sym, ap, subst, _∙_, ℕ, _<_, _≤_, _^_, List, [], _∷_, Holds, length, URA, fullShare, named, w64, tyUnit, Val, WT, hasTy, vint, SProp, ent, sep, emp, via, fst∗, snd∗, exE, id⊢, Lft, Share, GName, Fml, ftrue, fat, flft, Memory, Routine, Heap, Calls, Loops, WpFn, Tables, Atoms, sem, Lfts, Fun, fact, givenOf, tables, tablesOf, Given, ‵, raw, _⊛_, ⋆, some, later, _$_, _∵_, !, qed, by, move, keep, drop, use1, use2, split, join, pick, rewrite, fsplit, fjoin, feqL, suffices, frame, await, done, whole, sub, look-in, agg, look, init, forget, stop, hop, fld, from, load, of-opd, addr, and-then, no-more, assigns, land, returns, enter, alloc1, alloc0, params1, pass1, pass0, free1, free0, FmC, fmOf, WpFn-mono, owns, Is, shows, Nothing, uint-makes, u8, usize, RefT, plain, sliceVal, ShrSlice, MutSlice, Room, finally, slice-vals, shr-slice-tells, mut-slice-tells, shr-slice-copy, owned, peeks, heard, nothing, only, Contract, Triple, calls-at, ensured, lasts, Vals, onEntry, Meets, tripleOf, entered, cited, says, Stays, stay-none-slice, gave-slice, walkOf, goes-none-slice, goes-gave-slice, Walks, ends-at, walked, walk-meets, yes}
-use Prim.Native.Nat.{_+_, _-_, _*_}
+use Rattle.reader.proofs.Walk.{_≡_, refl, sym, ap, subst, _∙_, ℕ, _<_, _^_, List, [], _∷_, Holds, length, URA, fullShare, named, w64, tyUnit, Val, WT, hasTy, vint, SProp, ent, sep, emp, via, fst∗, snd∗, exE, id⊢, Lft, Share, GName, Fml, ftrue, fat, flft, Memory, Routine, Heap, Calls, Loops, WpFn, Tables, Atoms, sem, Lfts, Fun, fact, givenOf, tables, tablesOf, Given, ‵, raw, _⊛_, ⋆, some, later, _$_, _∵_, !, qed, by, move, keep, drop, use1, use2, split, join, pick, rewrite, fsplit, fjoin, feqL, suffices, frame, await, done, whole, sub, look-in, agg, look, init, forget, stop, hop, fld, from, load, of-opd, addr, and-then, no-more, assigns, land, returns, enter, alloc1, alloc0, params1, pass1, pass0, free1, free0, FmC, fmOf, WpFn-mono, owns, Is, shows, Nothing, uint-makes, u8, usize, RefT, plain, sliceVal, ShrSlice, MutSlice, Room, finally, slice-vals, shr-slice-tells, mut-slice-tells, shr-slice-copy, owned, peeks, heard, nothing, only, Contract, Triple, calls-at, ensured, lasts, Vals, onEntry, Meets, tripleOf, entered, cited, says, Stays, stay-none-slice, gave-slice, walkOf, goes-none-slice, goes-gave-slice, Walks, ends-at, walked, walk-meets, yes}
 use denote.Struct.Laws as LL
-use Rattle.tasklist.specs.Stored.{Filled, Plans}
+use Rattle.tasklist.specs.Stored.{HasTasks, Filled, Plans}
 use Rattle.tasklist.specs.declared.Stored.{Stored}
 use Rattle.model.specs.declared.task.Task.{Task}
-use Rattle.model.specs.File.{tasksPlace, taskSize}
 use Rattle.model.proofs.task.Task as T
 use Rattle.tasklist.proofs.Stored as P
 use Rattle.tasklist.proofs.Stored.Laws as P′
@@ -88,7 +86,7 @@ module _ {M : Type 1} (𝓤 : URA M) (H : Heap 𝓤) (A : Atoms 𝓤) (W : Given
   abbrev to-fill : ℕ → Fill 𝓤 H A mem run .Ghost
   to-fill n = ((κs, (q, (q′, tt)), tt, args n, (fv ∷ [], (lv ∷ [], (vint w64 n ∷ [], tt)))), tt)
 
-  goes-fill : (n : ℕ) → n < 2 ^ 64 → (n ≤ 32) × (n ≤ length xs) × (taskSize * n ≤ length (fl .now) - (tasksPlace + 4)) → ent 𝓤 (⋆ 𝓤 H A ((‵ (flft κ q) ⊛ ‵ ftrue) ∷ (‵ (flft κ′ q′) ⊛ ‵ ftrue) ∷ ‵ Shr ∷ ‵ Mut ∷ [])) (Fill 𝓤 H A mem run .pre (to-fill n))
+  goes-fill : (n : ℕ) → n < 2 ^ 64 → HasTasks (fl .now) n (length xs) → ent 𝓤 (⋆ 𝓤 H A ((‵ (flft κ q) ⊛ ‵ ftrue) ∷ (‵ (flft κ′ q′) ⊛ ‵ ftrue) ∷ ‵ Shr ∷ ‵ Mut ∷ [])) (Fill 𝓤 H A mem run .pre (to-fill n))
   goes-fill n fits within =
       qed W ((‵ (flft κ q) ⊛ ‵ ftrue) ∷ (‵ (flft κ′ q′) ⊛ ‵ ftrue) ∷ ‵ Shr ∷ ‵ Mut ∷ []) ∵ says ! within $
       split ! $ move ! (1 ∷ []) $ drop ! $ move ! (0 ∷ 1 ∷ []) $ join ! $ frame ! $
@@ -125,7 +123,7 @@ module _ {M : Type 1} (𝓤 : URA M) (H : Heap 𝓤) (A : Atoms 𝓤) (W : Given
         assigns ! (addr ! (from ! (fld ! refl (hop ! (look-in ! 16 (sub ! 0 refl (whole !))) (stop !))))) (from ! (stop !)) (init ! 8 refl (tt, tt)) $
         assigns ! (agg ! (and-then ! (load ! (from ! (stop !)) (look ! 8 refl)) (and-then ! (load ! (from ! (fld ! refl (stop !))) (look-in ! 16 (sub ! 1 refl (whole !)))) (no-more !)))) (from ! (stop !)) (init ! 6 refl (tt, (tt, (record { fits = room .0 }, tt)))) $
         move ! (2 ∷ []) $ use1 W (‵ Shr ⊛ ‵ Shr) (shr-slice-copy 𝓤 H A W (named 0) κ u8 .twice fl (fv ∷ [])) $ split ! $
-        move ! (0 ∷ 5 ∷ []) $ join ! $ move ! (4 ∷ 0 ∷ []) $ join ! $ move ! (3 ∷ 0 ∷ []) $ join ! $ use1 W (raw (Fill 𝓤 H A mem run .pre (to-fill (r .count)))) (goes-fill (r .count) (fields .1 .1 .0 .1) (e .few, e .room, e .there)) $
+        move ! (0 ∷ 5 ∷ []) $ join ! $ move ! (4 ∷ 0 ∷ []) $ join ! $ move ! (3 ∷ 0 ∷ []) $ join ! $ use1 W (raw (Fill 𝓤 H A mem run .pre (to-fill (r .count)))) (goes-fill (r .count) (fields .1 .1 .0 .1) (record { there = e .there; room = e .room })) $
         -- [what `fill_tasks` asks; what file owns; what the plan owns; true; _7; …; _6; …; _5; …; _4; …; _3; …; _2; …; _1; …; _0; …]
         calls-at ! fm (Fill 𝓤 H A mem run) known-fill (to-fill (r .count)) (and-then ! (load ! (from ! (stop !)) (look ! 16 refl)) (and-then ! (load ! (from ! (stop !)) (look ! 4 refl)) (and-then ! (load ! (from ! (fld ! refl (stop !))) (look-in ! 12 (sub ! 2 refl (whole !)))) (no-more !)))) (λ w.
         use1 W (later (some (λ (z : Unit {0}). ((‵ (flft κ q) ⊛ ‵ (flft κ′ q′) ⊛ ‵ ftrue) ⊛ ‵ (Nothing .own z (w ∷ []))) ⊛ raw (ensured 𝓤 H A fill.ended (fill.clauses 𝓤 H A mem run) κs (args (r .count)) tt z)))) (id⊢ 𝓤 _) $ await ! tt $ pick ! (λ z.

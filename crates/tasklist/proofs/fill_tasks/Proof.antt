@@ -1,5 +1,5 @@
 -- `tasklist::fill_tasks` meets its contract: a walk of its MIR, with a loop and a call in it. The borrow of the list is opened once, before the loop, and closed once, after it.
--- Between the two the row of tasks is the function's own: at the loop's head it is the list with its first i entries from the file. In a turn `task_in` is called, which is covered; all that is known of it is that it meets its contract.
+-- Between the two the row of tasks is the function's own: at the loop's head it is the list with its first i entries from the file. In a turn `task_at` is called, which is covered; all that is known of it is that it meets its contract.
 -- Assumes nothing.
 use Rattle.reader.proofs.Walk.{_≡_, refl, sym, ap, subst, ℕ, zero, suc, _+_, _*_, _<_, _≤_, _^_, lt-irrefl, lt-suc-self, add-one, arith, Bool, List, [], _∷_, length, set, Nat·lt-wfRel, ltb, lt→ltb, ltb→lt, lit<, URA, fullShare, Ty, named, imm, mut, w8, w64, tyInt, tyUnit, tyBool, tyPtr, tyRef, loop, Val, vunit, vbool, vint, vptr, SProp, ent, sep, ex, guard, id⊢, via, exI, exE, guardI, guardE, snd∗, Lft, GName, Share, Fml, ftrue, fat, froom, fdies, flft, fobs, fauth, fbor, fobor, Memory, Routine, Heap, Out, Env, afterSeq, afterBlock, afterTurn, Calls, Loops, Wp, atReturn, WpFn, Tables, Atoms, sem, Fun, fact, Lfts, givenOf, tables, tablesOf, Given, Item, ‵, raw, _⊛_, some, later, ⋆, anyQ, atRet, _$_, _∵_, !, qed, by, move, keep, drop, use1, use2, split, join, pick, rewrite, fsplit, fjoin, feqI, suffices, frame, await, done, whole, sub, look-in, look, store, store-raw, init, forget, stop, hop, fld, from, load, lit, unit-lit, of-opd, bin, and-then, no-more, assigns, assigns-last, land, stays, leaves-loop, exec, returns, enter, alloc1, alloc0, params1, pass1, pass0, free1, free0, loop-rule, fmOf, WpFn-mono, yes, owns, pureI, Is, shows, pointee, uint-vals, uint-tells, uint-makes, RefT, sliceTy, sliceVal, MutSlice, ShrSlice, heres, Room, slice-vals, mut-slice-tells, shr-slice-tells, shr-slice-copy, at-slice, codedHoleys, Held, row, place-is, elem-out, elem-put, opens-slice, closes-slice, plain, u8, usize, nothing, owned, peeks, heard, Contract, Triple, calls-at, ensured, lasts, Vals, onEntry, Meets, tripleOf, entered, cited, says, needs, Stays, stay-slice, stay-none-slice, stay-none, walkOf, Walks, ends-at, walked, goes-slice, goes-none-slice, goes-none, walk-meets}
 use Prim.Native.Nat.{_-_}
@@ -9,12 +9,13 @@ use Rattle.model.specs.File.{taskAt, tasksPlace, taskSize}
 use Rattle.tasklist.proofs.PassedOrNot.{holds, fails}
 use Rattle.tasklist.proofs.StoredInTurn.{stored, length-stored, stored-on}
 use Rattle.model.specs.declared.task.Task.{Task}
+use Rattle.tasklist.specs.Stored.{HasTasks}
 use Rattle.model.proofs.task.Task as T
 use Rattle.model.proofs.task.Task.Laws as T′
-use Rattle.runfile.proofs.task_in as callee
-use Rattle.runfile.proofs.task_in.Symbol as callee-def
-use Rattle.runfile.proofs.task_in.Symbol.{name as #runfile·task-in}
-use Rattle.runfile.proofs.task_in.Met as callee-thm
+use Rattle.runfile.proofs.task_at as callee
+use Rattle.runfile.proofs.task_at.Symbol as callee-def
+use Rattle.runfile.proofs.task_at.Symbol.{name as #runfile·task-at}
+use Rattle.runfile.proofs.task_at.Met as callee-thm
 use Rattle.tasklist.proofs.fill_tasks.Key.{name as #tasklist·fill-tasks}
 use Rattle.tasklist.proofs.fill_tasks as f
 use Rattle.tasklist.proofs.fill_tasks.Statement as stated
@@ -93,7 +94,7 @@ module _ {M : Type 1} (𝓤 : URA M) (H : Heap 𝓤) (A : Atoms 𝓤) (W : Given
   said : (i : ℕ) (r : Task) → ent 𝓤 (ensured 𝓤 H A callee.ended (callee.clauses 𝓤 H A mem run) (κ, tt) (fl, (i, tt)) tt r) (fact 𝓤 (r ≡ elem i))
   said i r = exE 𝓤 _ (λ ws. snd∗ 𝓤 (sem 𝓤 H A (lasts callee.ended (κ, tt) (fl, (i, tt)) ws)) (fact 𝓤 (r ≡ elem i)))
 
-  module _ (𝓣 : Tables 𝓤 H) (known : Triple 𝓤 (𝓣 .C #runfile·task-in) (TaskIn 𝓤 H A mem run)) (room : Room T.the-row (length xs)) (n-fits : n < 2 ^ 64) (within : n ≤ length xs) (has : taskSize * n ≤ length (fl .now) - (tasksPlace + 4)) (l₀ l₁ l₂ l₃ l₄ l₅ l₆ l₇ l₈ : ℕ) where
+  module _ (𝓣 : Tables 𝓤 H) (known : Triple 𝓤 (𝓣 .C #runfile·task-at) (TaskIn 𝓤 H A mem run)) (room : Room T.the-row (length xs)) (n-fits : n < 2 ^ 64) (within : n ≤ length xs) (has : taskSize * n ≤ length (fl .now) - (tasksPlace + 4)) (l₀ l₁ l₂ l₃ l₄ l₅ l₆ l₇ l₈ : ℕ) where
     abbrev C : Calls 𝓤 H
     C = 𝓣 .C
 
@@ -204,7 +205,7 @@ module _ {M : Type 1} (𝓤 : URA M) (H : Heap 𝓤) (A : Atoms 𝓤) (W : Given
         (loop-rule 𝓤 H (W .laws) 𝓣 _<_ (Nat·lt-wfRel .wf) En mir.turn-1 Left Inv turns n)
 
   -- the MIR, up to the loop: the borrow is opened once, before it
-  walk : (𝓣 : Tables 𝓤 H) → Triple 𝓤 (𝓣 .C #runfile·task-in) (TaskIn 𝓤 H A mem run) → length (fl .now) < 2 ^ 64 → Room T.the-row (length xs) → n < 2 ^ 64 → (n ≤ 32) × (n ≤ length xs) × (taskSize * n ≤ length (fl .now) - (tasksPlace + 4))
+  walk : (𝓣 : Tables 𝓤 H) → Triple 𝓤 (𝓣 .C #runfile·task-at) (TaskIn 𝓤 H A mem run) → length (fl .now) < 2 ^ 64 → Room T.the-row (length xs) → n < 2 ^ 64 → HasTasks (fl .now) n (length xs)
       → ent 𝓤 (onEntry 𝓤 H A f.signature κs (q, (q′, tt)) x at) (WpFn 𝓤 H (𝓣 .C) (𝓣 .Λ) code.function (fv ∷ lv ∷ vint w64 n ∷ []) Post)
   walk 𝓣 known f-fits room n-fits asks =
       qed W ((‵ (flft κ q) ⊛ ‵ (flft κ′ q′) ⊛ ‵ ftrue) ∷ ‵ (owns (ShrSlice (named 0) κ u8 ∷ MutSlice (named 1) κ′ T.the-row ∷ usize ∷ []) x at) ∷ []) ∵ enter ! (𝓣 .C) (𝓣 .Λ) code.function (fv ∷ lv ∷ vint w64 n ∷ []) _ $
@@ -213,12 +214,12 @@ module _ {M : Type 1} (𝓤 : URA M) (H : Heap 𝓤) (A : Atoms 𝓤) (W : Given
       assigns ! (of-opd ! (lit ! tt)) (from ! (stop !)) (init ! 8 refl (tt, record { fits = lit< tt })) $
       move ! (19 ∷ []) $ fsplit ! $ move ! (1 ∷ []) $ fsplit ! $ fsplit ! $ drop ! $ fsplit ! $ move ! (22 ∷ []) $ split ! $ move ! (1 ∷ []) $ split ! $ move ! (3 ∷ 4 ∷ 0 ∷ []) $
       opens-slice ! tt T.the-row xs b o $ move ! (6 ∷ []) $ fsplit ! $
-      keep ! (2 ∷ 17 ∷ 15 ∷ 13 ∷ 11 ∷ 9 ∷ 23 ∷ 21 ∷ 19 ∷ 25 ∷ 3 ∷ 4 ∷ 5 ∷ 7 ∷ 8 ∷ 0 ∷ 26 ∷ 24 ∷ 22 ∷ 20 ∷ 18 ∷ 16 ∷ 14 ∷ 12 ∷ 10 ∷ []) $ by ! (loops 𝓣 known room n-fits (asks .1) (asks .2) l₀ l₁ l₂ l₃ l₄ l₅ l₆ l₇ l₈))))))))))
+      keep ! (2 ∷ 17 ∷ 15 ∷ 13 ∷ 11 ∷ 9 ∷ 23 ∷ 21 ∷ 19 ∷ 25 ∷ 3 ∷ 4 ∷ 5 ∷ 7 ∷ 8 ∷ 0 ∷ 26 ∷ 24 ∷ 22 ∷ 20 ∷ 18 ∷ 16 ∷ 14 ∷ 12 ∷ 10 ∷ []) $ by ! (loops 𝓣 known room n-fits (asks .room) (asks .there) l₀ l₁ l₂ l₃ l₄ l₅ l₆ l₇ l₈))))))))))
 
-module _ {M : Type 1} (𝓤 : URA M) (H : Heap 𝓤) (A : Atoms 𝓤) (W : Given 𝓤 H A) (mem : Memory → SProp 𝓤) (run : Routine → Fun 𝓤) (𝓣 : Tables 𝓤 H) (known : Triple 𝓤 (𝓣 .C #runfile·task-in) (TaskIn 𝓤 H A mem run)) where
+module _ {M : Type 1} (𝓤 : URA M) (H : Heap 𝓤) (A : Atoms 𝓤) (W : Given 𝓤 H A) (mem : Memory → SProp 𝓤) (run : Routine → Fun 𝓤) (𝓣 : Tables 𝓤 H) (known : Triple 𝓤 (𝓣 .C #runfile·task-at) (TaskIn 𝓤 H A mem run)) where
   fill-walks : Walks 𝓤 H A f.ended stayed (WpFn 𝓤 H (𝓣 .C) (𝓣 .Λ) code.function) (f.clauses 𝓤 H A mem run)
   fill-walks = walked 𝓤 H A f.ended stayed (f.clauses 𝓤 H A mem run) (WpFn 𝓤 H (𝓣 .C) (𝓣 .Λ) code.function) (λ κs. (slice-vals, (slice-vals, (uint-vals w64, tt)))) (λ κs. (shr-slice-tells (named 0) (κs .0) u8, (mut-slice-tells (named 1) (κs .1 .0) T.the-row, (uint-tells w64, tt))))
-      (λ κs qs bounds a g are. needs 𝓤 ((a .1 .1 .0 ≤ 32) × (a .1 .1 .0 ≤ length (a .1 .0 .now)) × (taskSize * a .1 .1 .0 ≤ length (a .0 .now) - (tasksPlace + 4))) _
+      (λ κs qs bounds a g are. needs 𝓤 (HasTasks (a .0 .now) (a .1 .1 .0) (length (a .1 .0 .now))) _
       (walk 𝓤 H A W mem run (κs .0) (κs .1 .0) (qs .0) (qs .1 .0) (a .0) (a .1 .0 .ptr .0) (a .1 .0 .ptr .1) (a .1 .0 .name) (a .1 .0 .now) (a .1 .1 .0) 𝓣 known (are .0 .0 .1 .0) (are .1 .0 .0 .1) (are .1 .1 .0 .1)))
 
   fill-meets : Meets 𝓤 H A f.signature (WpFn 𝓤 H (𝓣 .C) (𝓣 .Λ) code.function) (f.spec 𝓤 H A mem run)
@@ -231,4 +232,4 @@ unfolding code.routine tablesOf
 fill-tasks-spec 𝓤 H 𝓜 𝓖 𝓡 =
     entered 𝓤 H (tripleOf 𝓤 H (𝓖 .A) f.signature (f.spec 𝓤 H (𝓖 .A) (𝓜 .mem) (𝓡 .run))) (tables 𝓤 H 𝓜 𝓡 code.env .C) (tables 𝓤 H 𝓜 𝓡 code.env .Λ) #tasklist·fill-tasks code.function (code.unfolded 𝓤 H 𝓜 𝓡)
     (fill-meets 𝓤 H (𝓖 .A) (givenOf 𝓤 H 𝓜 𝓖) (𝓜 .mem) (𝓡 .run) (tablesOf 𝓤 H 𝓜 (tables 𝓤 H 𝓜 𝓡 code.env))
-    (cited 𝓤 H (TaskIn 𝓤 H (𝓖 .A) (𝓜 .mem) (𝓡 .run)) 𝓜 𝓡 code.env #runfile·task-in callee-def.routine code.calls-runfile·task-in (callee-thm.met 𝓤 H 𝓜 𝓖 𝓡)))
+    (cited 𝓤 H (TaskIn 𝓤 H (𝓖 .A) (𝓜 .mem) (𝓡 .run)) 𝓜 𝓡 code.env #runfile·task-at callee-def.routine code.calls-runfile·task-at (callee-thm.met 𝓤 H 𝓜 𝓖 𝓡)))

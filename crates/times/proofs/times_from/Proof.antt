@@ -1,7 +1,7 @@
 -- `times::times_from` meets its contract: a walk of its MIR, with a loop and a call in it. The borrow of the table is opened once, before the loop, and closed once, after it.
 -- Between the two the table's numbers are the function's own: in a turn one of them is read, the task with that number is read from the lent list, and the table is lent to `put_times` for a lifetime that is made for the call.
 -- Assumes nothing.
-use Rattle.reader.proofs.Walk.{_≡_, refl, sym, ap, subst, ℕ, zero, suc, _+_, _*_, _<_, _^_, lt-irrefl, lt-suc-self, arith, Bool, List, [], _∷_, Holds, length, getD, Nat·lt-wfRel, ltb, lt→ltb, ltb→lt, lit<, URA, fullShare, Ty, named, erased, imm, mut, w32, w64, tyInt, tyUnit, tyBool, tyPtr, tyRef, loop, Val, WT, hasTy, vunit, vbool, vint, vptr, SProp, ent, sep, ex, guard, id⊢, via, exI, exE, guardI, guardE, Lft, GName, Share, Fml, ftrue, fat, froom, fdies, flft, fobs, fauth, fbor, fobor, Memory, Routine, Heap, Out, Env, afterSeq, afterBlock, afterTurn, Calls, Loops, Wp, atReturn, WpFn, Tables, Atoms, sem, Fun, fact, Lfts, givenOf, tables, tablesOf, Given, Item, ‵, raw, _⊛_, some, later, ⋆, anyQ, atRet, _$_, _∵_, !, qed, by, move, keep, drop, use1, use2, split, join, pick, rewrite, fsplit, fjoin, feqI, feqL, suffices, frame, await, done, whole, sub, look-in, agg, look, look-raw, store, init, forget, stop, hop, fld, from, load, lit, unit-lit, of-opd, bin, addr, and-then, no-more, assigns, assigns-last, land, stays, leaves-loop, exec, returns, enter, alloc1, alloc0, params1, pass1, pass0, free1, free0, loop-rule, fmOf, WpFn-mono, yes, owns, pureI, Is, shows, pointee, uint-vals, uint-tells, uint-makes, Nothing, RefT, sliceTy, sliceVal, MutSlice, ShrSlice, heres, Room, slice-vals, mut-slice-tells, shr-slice-tells, shr-slice-copy, at-slice, codedHoleys, Held, row, place-is, elem-out, elem-back, opens-slice, closes-slice, looks-slice, shuts-slice, plain, u32, usize, nothing, owned, heard, only, Contract, Triple, calls-at, ensured, lasts, Vals, onEntry, Meets, tripleOf, entered, cited, says, needs, Stays, stay-slice, stay-none-slice, stay-none, walkOf, Walks, ends-at, walked, goes-slice, goes-none-slice, goes-none, walk-meets}
+use Rattle.reader.proofs.Walk.{_≡_, refl, sym, ap, subst, ℕ, zero, suc, _+_, _*_, _<_, _^_, lt-irrefl, lt-suc-self, arith, Bool, List, [], _∷_, Holds, length, getD, Nat·lt-wfRel, lit<, URA, fullShare, Ty, named, erased, imm, mut, w32, w64, tyInt, tyUnit, tyBool, tyPtr, tyRef, loop, Val, WT, hasTy, vunit, vbool, vint, vptr, SProp, ent, sep, ex, guard, id⊢, via, exI, exE, guardI, guardE, Lft, GName, Share, Fml, ftrue, fat, froom, fdies, flft, fobs, fauth, fbor, fobor, Memory, Routine, Heap, Out, Env, afterSeq, afterBlock, afterTurn, Calls, Loops, Wp, atReturn, WpFn, Tables, Atoms, sem, Fun, fact, Lfts, givenOf, tables, tablesOf, Given, Item, ‵, raw, _⊛_, some, later, ⋆, anyQ, atRet, _$_, _∵_, !, qed, by, move, keep, drop, use1, use2, split, join, pick, rewrite, fsplit, fjoin, feqI, feqL, suffices, frame, await, done, whole, sub, look-in, agg, look, look-raw, store, init, forget, stop, hop, fld, from, load, lit, unit-lit, of-opd, bin, addr, and-then, no-more, assigns, assigns-last, land, stays, leaves-loop, exec, returns, enter, alloc1, alloc0, params1, pass1, pass0, free1, free0, loop-rule, fmOf, WpFn-mono, yes, owns, pureI, Is, shows, pointee, uint-vals, uint-tells, uint-makes, Nothing, RefT, sliceTy, sliceVal, MutSlice, ShrSlice, heres, Room, slice-vals, mut-slice-tells, shr-slice-tells, shr-slice-copy, at-slice, codedHoleys, Held, row, place-is, elem-out, elem-back, opens-slice, closes-slice, looks-slice, shuts-slice, plain, u32, usize, nothing, owned, heard, only, Contract, Triple, calls-at, ensured, lasts, Vals, onEntry, Meets, tripleOf, entered, cited, says, needs, Stays, stay-slice, stay-none-slice, stay-none, walkOf, Walks, ends-at, walked, goes-slice, goes-none-slice, goes-none, walk-meets}
 use base.Fml.{flent}
 use types.Kit.{use3, Seq, Go, runs}
 use types.Run.{un}
@@ -12,19 +12,18 @@ use denote.Index.{whole-in, whole-out}
 use denote.Lend.{lends-slice, slice-back}
 use denote.Struct.Laws as LL
 use denote.Enum.Laws as EL
+use Rattle.base.proofs.Test.{says-ltb, says-true, says-false}
 use Rattle.model.specs.Model.{Run, noTask, taskOf}
 use Rattle.model.specs.Rules.{Jobs}
 use Rattle.model.specs.declared.task.Task.{Task}
 use Rattle.model.proofs.task.Task as T
 use Rattle.model.proofs.task.Task.Laws as T′
 use Rattle.table.specs.Table.{Rows}
-use Rattle.tasklist.proofs.PassedOrNot.{holds, fails}
 use Rattle.times.specs.declared.Stage.{Stage}
-use Rattle.times.specs.Times.{begins, upTo, KeptFrom, Leads}
+use Rattle.times.specs.Times.{begins, upTo, KeptFrom, Listed}
 use Rattle.times.proofs.RowAfterRow.{Filling, filling-none, filling-on, filling-all, number-below, asks}
 use Rattle.times.proofs.Stage as S
 use Rattle.times.proofs.Stage.Laws as S′
-use Rattle.times.proofs.StageValue.{stage-ty, stage-value, stage-typed}
 use Rattle.times.proofs.put_times as put
 use Rattle.times.proofs.put_times.Symbol as put-def
 use Rattle.times.proofs.put_times.Symbol.{name as #times·put-times}
@@ -46,7 +45,7 @@ module _ {M : Type 1} (𝓤 : URA M) (H : Heap 𝓤) (A : Atoms 𝓤) (mm : Memo
   abbrev Put : Contract 𝓤
   Put = tripleOf 𝓤 H A put.signature (put.spec 𝓤 H A mm run)
 
-module _ {M : Type 1} (𝓤 : URA M) (H : Heap 𝓤) (A : Atoms 𝓤) (W : Given 𝓤 H A) (mm : Memory → SProp 𝓤) (run : Routine → Fun 𝓤) (κ κ′ : Lft) (q q′ : Share) (s : Stage) (w : Val) (is-stage : Is S.the-row s (w ∷ [])) (stage-typed : Holds (hasTy stage-ty w) × WT w) (b₁ o₁ : ℕ) (γ₁ : GName) (xs : List Task) (b o : ℕ) (γ : GName) (ys : List ℕ) (n : ℕ) where
+module _ {M : Type 1} (𝓤 : URA M) (H : Heap 𝓤) (A : Atoms 𝓤) (W : Given 𝓤 H A) (mm : Memory → SProp 𝓤) (run : Routine → Fun 𝓤) (κ κ′ : Lft) (q q′ : Share) (s : Stage) (w : Val) (is-stage : Is S.the-row s (w ∷ [])) (stage-typed : Holds (hasTy S′.mir w) × WT w) (b₁ o₁ : ℕ) (γ₁ : GName) (xs : List Task) (b o : ℕ) (γ : GName) (ys : List ℕ) (n : ℕ) where
   abbrev κs : Lfts 2
   κs = (κ, (κ′, tt))
 
@@ -147,14 +146,14 @@ module _ {M : Type 1} (𝓤 : URA M) (H : Heap 𝓤) (A : Atoms 𝓤) (W : Given
     lent-ty = sliceTy part-ty
 
     abbrev En : Env 𝓤 H
-    En = (tyUnit, l₀) ∷ (stage-ty, ls) ∷ (tasks-ty, l₁) ∷ (t-ty, l₂) ∷ (word, l₃) ∷ (word, l₄) ∷ (tyBool, l₅) ∷ (tyUnit, l₆) ∷ (word, l₇) ∷ (tyPtr, l₈) ∷ (tyInt w32, l₉) ∷ (word, l₁₀) ∷ (word, l₁₁) ∷ (tyPtr, l₁₂) ∷ (T′.mir, l₁₃) ∷ (part-ty, l₁₄) ∷ (lent-ty, l₁₅) ∷ []
+    En = (tyUnit, l₀) ∷ (S′.mir, ls) ∷ (tasks-ty, l₁) ∷ (t-ty, l₂) ∷ (word, l₃) ∷ (word, l₄) ∷ (tyBool, l₅) ∷ (tyUnit, l₆) ∷ (word, l₇) ∷ (tyPtr, l₈) ∷ (tyInt w32, l₉) ∷ (word, l₁₀) ∷ (word, l₁₁) ∷ (tyPtr, l₁₂) ∷ (T′.mir, l₁₃) ∷ (part-ty, l₁₄) ∷ (lent-ty, l₁₅) ∷ []
 
     -- what no turn changes
     abbrev Frame : List (Item 𝓤)
     Frame = ‵ (fat fullShare tasks-ty l₁ 0 sv) ∷ ‵ (fat fullShare t-ty l₂ 0 lv) ∷ ‵ (fat fullShare word l₃ 0 (vint w64 n)) ∷ ‵ (froom tyUnit l₀ 0)
         ∷ ‵ (fobor κ′ q′ (Held u32 (length ys) b o γ)) ∷ ‵ (fobs γ (codedHoleys u32 .code (heres u32 ys))) ∷ ‵ (fauth γ (codedHoleys u32 .code (heres u32 ys)))
         ∷ ‵ (flft κ q) ∷ ‵ Shr
-        ∷ ‵ (fdies tyUnit l₀) ∷ ‵ (fdies tasks-ty l₁) ∷ ‵ (fdies t-ty l₂) ∷ ‵ (fdies word l₃) ∷ ‵ (fdies word l₄) ∷ ‵ (fdies tyBool l₅) ∷ ‵ (fdies tyUnit l₆) ∷ ‵ (fdies word l₇) ∷ ‵ (fdies tyPtr l₈) ∷ ‵ (fdies (tyInt w32) l₉) ∷ ‵ (fdies word l₁₀) ∷ ‵ (fdies word l₁₁) ∷ ‵ (fdies tyPtr l₁₂) ∷ ‵ (fdies T′.mir l₁₃) ∷ ‵ (fdies part-ty l₁₄) ∷ ‵ (fdies lent-ty l₁₅) ∷ ‵ (fat fullShare stage-ty ls 0 (w)) ∷ ‵ (fdies stage-ty ls) ∷ []
+        ∷ ‵ (fdies tyUnit l₀) ∷ ‵ (fdies tasks-ty l₁) ∷ ‵ (fdies t-ty l₂) ∷ ‵ (fdies word l₃) ∷ ‵ (fdies word l₄) ∷ ‵ (fdies tyBool l₅) ∷ ‵ (fdies tyUnit l₆) ∷ ‵ (fdies word l₇) ∷ ‵ (fdies tyPtr l₈) ∷ ‵ (fdies (tyInt w32) l₉) ∷ ‵ (fdies word l₁₀) ∷ ‵ (fdies word l₁₁) ∷ ‵ (fdies tyPtr l₁₂) ∷ ‵ (fdies T′.mir l₁₃) ∷ ‵ (fdies part-ty l₁₄) ∷ ‵ (fdies lent-ty l₁₅) ∷ ‵ (fat fullShare S′.mir ls 0 (w)) ∷ ‵ (fdies S′.mir ls) ∷ []
 
     abbrev At : ℕ → List ℕ → List (Item 𝓤)
     At k cur = ‵ (row u32 fullShare cur b o) ∷ ‵ (fat fullShare word l₄ 0 (vint w64 k)) ∷ ‵ (froom tyBool l₅ 0) ∷ ‵ (froom tyUnit l₆ 0) ∷ ‵ (froom word l₇ 0) ∷ ‵ (froom tyPtr l₈ 0) ∷ ‵ (froom (tyInt w32) l₉ 0) ∷ ‵ (froom word l₁₀ 0) ∷ ‵ (froom word l₁₁ 0) ∷ ‵ (froom tyPtr l₁₂ 0) ∷ ‵ (froom T′.mir l₁₃ 0) ∷ ‵ (froom part-ty l₁₄ 0) ∷ ‵ (froom lent-ty l₁₅ 0) ∷ Frame
@@ -188,7 +187,7 @@ module _ {M : Type 1} (𝓤 : URA M) (H : Heap 𝓤) (A : Atoms 𝓤) (W : Given
         let next-fits : k + 1 < 2 ^ 64 = omega arith in
         qed W (At k cur) ∵ exec ! C Λ En mir.turn-1 (anyQ (afterTurn 𝓤 H X Left)) $
         assigns ! (bin ! (load ! (from ! (stop !)) (look ! 1 refl)) (load ! (from ! (stop !)) (look ! 15 refl)) tt) (from ! (stop !)) (init ! 2 refl (tt, tt)) $
-        rewrite ! 2 (λ (t : Bool). ‵ (fat fullShare tyBool l₅ 0 (vbool t))) (holds (ltb k n) (lt→ltb k n small)) refl $
+        rewrite ! 2 (λ (t : Bool). ‵ (fat fullShare tyBool l₅ 0 (vbool t))) (says-true (says-ltb k n) small) refl $
         stays ! (load ! (from ! (stop !)) (look ! 2 refl)) $
         -- the number of the task
         assigns ! (bin ! (load ! (from ! (stop !)) (look ! 1 refl)) (lit ! tt) (record { fits = mul-fits })) (from ! (stop !)) (init ! 4 refl (tt, record { fits = mul-fits })) $
@@ -241,7 +240,7 @@ module _ {M : Type 1} (𝓤 : URA M) (H : Heap 𝓤) (A : Atoms 𝓤) (W : Given
     ends cur X F =
         qed W (At n cur) ∵ exec ! C Λ En mir.turn-1 (anyQ (afterTurn 𝓤 H X Left)) $
         assigns ! (bin ! (load ! (from ! (stop !)) (look ! 1 refl)) (load ! (from ! (stop !)) (look ! 15 refl)) tt) (from ! (stop !)) (init ! 2 refl (tt, tt)) $
-        rewrite ! 2 (λ (t : Bool). ‵ (fat fullShare tyBool l₅ 0 (vbool t))) (fails (ltb n n) (λ a. lt-irrefl n (ltb→lt n n a))) refl $
+        rewrite ! 2 (λ (t : Bool). ‵ (fat fullShare tyBool l₅ 0 (vbool t))) (says-false (says-ltb n n) (lt-irrefl n)) refl $
         leaves-loop ! (load ! (from ! (stop !)) (look ! 2 refl)) $ exec ! C Λ En mir.t-3 (atRet En Post) $
         assigns ! (of-opd ! (unit-lit !)) (from ! (stop !)) (init ! 16 refl (tt, tt)) $
         move ! (0 ∷ 17 ∷ 18 ∷ 19 ∷ []) $ closes-slice ! tt u32 ys cur (F .long) b o $
@@ -271,15 +270,15 @@ module _ {M : Type 1} (𝓤 : URA M) (H : Heap 𝓤) (A : Atoms 𝓤) (W : Given
     turns : (t : ℕ) → ent 𝓤 (Inv t) (Wp 𝓤 H C Λ En mir.turn-1 (afterTurn 𝓤 H (Below t) Left))
     turns t = exE 𝓤 (λ (k : ℕ). ex 𝓤 (λ (l : List ℕ). guard 𝓤 (Facts t k l) (⋆ 𝓤 H A (At k l)))) (λ k. exE 𝓤 (λ (l : List ℕ). guard 𝓤 (Facts t k l) (⋆ 𝓤 H A (At k l))) (λ cur. guardE 𝓤 (Facts t k cur) (⋆ 𝓤 H A (At k cur)) (λ h. turn-at t k cur h)))
 
-    loops : ((σ : Run) × Leads σ xs (begins s) ys n) → ent 𝓤 (⋆ 𝓤 H A (At 0 ys)) (Wp 𝓤 H C Λ En (loop mir.turn-1) Left)
+    loops : ((σ : Run) × Listed σ xs (begins s) ys n) → ent 𝓤 (⋆ 𝓤 H A (At 0 ys)) (Wp 𝓤 H C Λ En (loop mir.turn-1) Left)
     loops (σ, I) = via 𝓤 (Inv n) (inv n 0 ys (omega arith, filling-none s σ I)) (loop-rule 𝓤 H (W .laws) 𝓣 _<_ (Nat·lt-wfRel .wf) En mir.turn-1 Left Inv turns n)
 
     -- the same as a goal of the walk, which is compared as it is written
-    looped : ((σ : Run) × Leads σ xs (begins s) ys n) → Seq (Go {0}) W (At 0 ys) (runs C Λ En mir.t-2 (atRet En Post))
+    looped : ((σ : Run) × Listed σ xs (begins s) ys n) → Seq (Go {0}) W (At 0 ys) (runs C Λ En mir.t-2 (atRet En Post))
     looped asked = record { prf = loops asked }
 
   -- the MIR, up to the loop: the borrow is opened once, before it
-  walk : (𝓣 : Tables 𝓤 H) → Triple 𝓤 (𝓣 .C #times·put-times) (Put 𝓤 H A mm run) → Room T.the-row (length xs) → Room u32 (length ys) → n < 2 ^ 64 → ((σ : Run) × Leads σ xs (begins s) ys n)
+  walk : (𝓣 : Tables 𝓤 H) → Triple 𝓤 (𝓣 .C #times·put-times) (Put 𝓤 H A mm run) → Room T.the-row (length xs) → Room u32 (length ys) → n < 2 ^ 64 → ((σ : Run) × Listed σ xs (begins s) ys n)
       → ent 𝓤 (onEntry 𝓤 H A f.signature κs (q, (q′, tt)) x at) (WpFn 𝓤 H (𝓣 .C) (𝓣 .Λ) code.function (w ∷ sv ∷ lv ∷ vint w64 n ∷ []) Post)
   walk 𝓣 known room₁ room n-fits asked =
       qed W ((‵ (flft κ q) ⊛ ‵ (flft κ′ q′) ⊛ ‵ ftrue) ∷ ‵ (owns (S.the-row ∷ ShrSlice (named 0) κ T.the-row ∷ MutSlice (named 1) κ′ u32 ∷ usize ∷ []) x at) ∷ []) ∵ enter ! (𝓣 .C) (𝓣 .Λ) code.function (w ∷ sv ∷ lv ∷ vint w64 n ∷ []) Post $
@@ -294,8 +293,8 @@ module _ {M : Type 1} (𝓤 : URA M) (H : Heap 𝓤) (A : Atoms 𝓤) (W : Given
 module _ {M : Type 1} (𝓤 : URA M) (H : Heap 𝓤) (A : Atoms 𝓤) (W : Given 𝓤 H A) (mm : Memory → SProp 𝓤) (run : Routine → Fun 𝓤) (𝓣 : Tables 𝓤 H) (known : Triple 𝓤 (𝓣 .C #times·put-times) (Put 𝓤 H A mm run)) where
   walks : Walks 𝓤 H A f.ended stayed (WpFn 𝓤 H (𝓣 .C) (𝓣 .Λ) code.function) (f.clauses 𝓤 H A mm run)
   walks = walked 𝓤 H A f.ended stayed (f.clauses 𝓤 H A mm run) (WpFn 𝓤 H (𝓣 .C) (𝓣 .Λ) code.function) (λ κs. (EL.vals S.the-type S′.the-laws, (slice-vals, (slice-vals, (uint-vals w64, tt))))) (λ κs. (EL.tells S.the-type S′.the-laws, (shr-slice-tells (named 0) (κs .0) T.the-row, (mut-slice-tells (named 1) (κs .1 .0) u32, (uint-tells w64, tt)))))
-      (λ κs qs bounds a g are. needs 𝓤 ((σ : Run) × Leads σ (a .1 .0 .now) (begins (a .0)) (a .1 .1 .0 .now) (a .1 .1 .1 .0)) _
-      (walk 𝓤 H A W mm run (κs .0) (κs .1 .0) (qs .0) (qs .1 .0) (a .0) (stage-value (a .0)) (are .0) (stage-typed 𝓤 H A W (a .0) _ (are .0)) (a .1 .0 .ptr .0) (a .1 .0 .ptr .1) (a .1 .0 .name) (a .1 .0 .now) (a .1 .1 .0 .ptr .0) (a .1 .1 .0 .ptr .1) (a .1 .1 .0 .name) (a .1 .1 .0 .now) (a .1 .1 .1 .0) 𝓣 known (are .1 .0 .0 .1) (are .1 .1 .0 .0 .1) (are .1 .1 .1 .0 .1)))
+      (λ κs qs bounds a g are. needs 𝓤 ((σ : Run) × Listed σ (a .1 .0 .now) (begins (a .0)) (a .1 .1 .0 .now) (a .1 .1 .1 .0)) _
+      (walk 𝓤 H A W mm run (κs .0) (κs .1 .0) (qs .0) (qs .1 .0) (a .0) (EL.val S.the-type S′.the-laws (a .0)) (are .0) (EL.lawful S.the-type S′.the-laws 𝓤 H A W tt .typed (a .0) _ (are .0) .0) (a .1 .0 .ptr .0) (a .1 .0 .ptr .1) (a .1 .0 .name) (a .1 .0 .now) (a .1 .1 .0 .ptr .0) (a .1 .1 .0 .ptr .1) (a .1 .1 .0 .name) (a .1 .1 .0 .now) (a .1 .1 .1 .0) 𝓣 known (are .1 .0 .0 .1) (are .1 .1 .0 .0 .1) (are .1 .1 .1 .0 .1)))
 
   meets : Meets 𝓤 H A f.signature (WpFn 𝓤 H (𝓣 .C) (𝓣 .Λ) code.function) (f.spec 𝓤 H A mm run)
   meets =

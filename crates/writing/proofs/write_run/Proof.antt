@@ -4,10 +4,14 @@ use Rattle.writing.proofs.write_run.Statement.{statement}
 use Rattle.writing.proofs.write_run.Tie as tie
 
 write-tasks-requires : tie.Need-write-tasks-requires
-write-tasks-requires c κs = let few = few-tasks (c .before .before .before .before .before .before .before .before .before .before .pre .1 .1) in search needs
+write-tasks-requires c κs =
+    let few = few-tasks (c .before .before .before .before .before .before .before .before .before .pre .1 .1) in search needs
 
 write-records-requires : tie.Need-write-records-requires
-write-records-requires c κs = let few = few-tasks (c .before .before .before .before .before .before .before .before .before .before .before .before .before .before .before .before .before .before .pre .1 .1) in search needs
+write-records-requires c κs =
+    let written = c .before .before .before .before .before .before .before .before in
+    let few = few-tasks (written .before .before .before .before .before .before .before .before .before .pre .1 .1) in
+    search needs
 
 returns : tie.Need-returns
 returns c σ T =

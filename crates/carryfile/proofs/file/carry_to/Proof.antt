@@ -1,40 +1,67 @@
+use mathlib.Core.Path.{_≡_}
 use native.Mathlib.Omega.{arith}
 use denote.Ref.{now}
-use Rattle.model.specs.Model.{Run}
+use lib.ListN.{length}
+use Rattle.model.specs.Model.{Run, existing}
 use Rattle.model.specs.Rules.{Obeys}
-use Rattle.openfile.specs.Head.{Tells}
+use Rattle.openfile.specs.Head.{Tells, Leads}
+use Rattle.openfile.proofs.Leading.{leads-front}
 use Rattle.openfile.proofs.WholeOrRefused.{tells-few}
-use Rattle.carryfile.proofs.EachAnswer.{says-10, obeys, carriable, says-11, fits, says-5}
+use Rattle.standing.specs.Carriable.{Reached}
+use Rattle.carryrun.specs.Writable.{Writable}
+use Rattle.carryrun.proofs.Handed.{few-jobs}
+use Rattle.carryfile.proofs.EachAnswer.{says-10, obeys, writable, says-11, says-5}
 use borrow.Author.Needs.{needs}
 use Rattle.carryfile.proofs.file.carry_to.Statement.{statement}
 use Rattle.carryfile.proofs.file.carry_to.Tie as tie
 
+-- the list that was decoded
+leads : (c : tie.After-tasks-of) → let a = c .before .before .before .before .args in (ρ : Run)
+    → Tells (now (a .file)) (a .head) ρ → Leads ρ (c .tasks-of .result)
+leads c ρ T = leads-front _ (c .tasks-of .ensures ρ T)
+
+judge-run-requires : tie.Need-judge-run-requires
+judge-run-requires c κs = let (ρ, T, R, m) = c .before .before .before .before .pre in (ρ, T, leads c ρ T)
+
 -- what an accepted run does
-accepted : (c : tie.Else1) → let a = c .before .before .before .before .before .before .args in (ρ : Run) → Tells (now (a .file)) (a .head) ρ → Obeys ρ
-accepted c ρ T = obeys ρ (c .before .accepts .ensures) (c .before .before .judge-run .ensures ρ T) (c .if1 .left)
+accepted : (c : tie.Else1) → let a = c .before .before .before .before .before .before .before .args in (ρ : Run)
+    → Tells (now (a .file)) (a .head) ρ → Obeys ρ
+accepted c ρ T = obeys ρ (c .before .accepts .ensures) (c .before .before .judge-run .ensures ρ T (leads (c .before .before .before) ρ T)) (c .if1 .left)
 
 returns : tie.Need-returns
-returns c ρ T R = says-10 T _ _ R (c .before .accepts .ensures) (c .before .before .judge-run .ensures ρ T) (c .if1 .taken)
+returns c ρ T R m =
+    let v = c .before .before .judge-run .ensures ρ T (leads (c .before .before .before) ρ T) in
+    says-10 T _ _ R (c .before .accepts .ensures) v (c .if1 .taken)
 
 returns-2 : tie.Need-returns-2
-returns-2 c ρ T R = says-11 T _ _ R (accepted (c .before) ρ T) (c .before .before .before .before .size-of .ensures) (c .if2 .taken)
+returns-2 c ρ T R m = says-11 T _ _ R (accepted (c .before) ρ T) m (c .before .before .before .before .before .size-of .ensures) (c .if2 .taken)
+
+-- a file that fits can be written
+may-write : (c : tie.Else2) → let a = c .before .before .before .before .before .before .before .before .args in (ρ : Run)
+    → Tells (now (a .file)) (a .head) ρ → Reached ρ (a .horizon) → a .m ≡ length (existing ρ (a .horizon))
+    → Writable (now (a .file)) (a .head) (c .before .before .before .before .tasks-of .result) (a .horizon) (a .m) (length (now (a .output))) ρ
+may-write c ρ T R m =
+    let L = leads (c .before .before .before .before) ρ T in
+    writable T _ L (accepted (c .before) ρ T) R m (c .before .before .before .before .before .size-of .ensures) (c .if2 .left)
 
 write-carry-requires : tie.Need-write-carry-requires
 write-carry-requires c κs =
-    let (ρ, T, R) = c .before .before .before .before .before .before .before .before .pre in
-    let O = accepted (c .before .before) ρ T in
-    (fits _ (c .before .before .before .before .before .size-of .ensures) (c .before .if2 .left), (ρ, O, carriable T O R))
+    let (ρ, T, R, m) = c .before .before .before .before .before .before .before .before .before .pre in
+    (ρ, may-write (c .before) ρ T R m)
 
-cast-t15 : tie.Need-cast-t15
-cast-t15 c =
-    let (ρ, T, R) = c .before .before .before .before .before .before .before .before .before .before .before .pre in
+cast-t16 : tie.Need-cast-t16
+cast-t16 c =
+    let (ρ, T, R, m) = c .before .before .before .before .before .before .before .before .before .before .before .before .pre in
     let few = tells-few T in
-    omega (arith, few, R .few, c .before .before .before .before .before .before .before .before .size-of .ensures)
+    let W = may-write (c .before .before .before .before) ρ T R m in
+    omega (arith, few, few-jobs W, c .before .before .before .before .before .before .before .before .before .size-of .ensures)
 
 returns-3 : tie.Need-returns-3
-returns-3 c ρ T R =
+returns-3 c ρ T R m =
     let O = accepted (c .before .before .before .before .before) ρ T in
-    says-5 T _ _ R O (c .before .before .before .before .before .before .before .before .size-of .ensures) (c .before .before .before .before .if2 .left) (c .before .before .write-carry .ensures ρ O (carriable T O R))
+    let W = may-write (c .before .before .before .before) ρ T R m in
+    let size = c .before .before .before .before .before .before .before .before .before .size-of .ensures in
+    says-5 T _ _ R O m size (c .before .before .before .before .if2 .left) (c .before .before .write-carry .ensures ρ W)
 
 pub carry-to-spec : {M : Type 1} → statement M
 carry-to-spec =
@@ -42,10 +69,11 @@ carry-to-spec =
     (tie.spec
     (λ c κs. search needs)
     (λ c κs. search needs)
+    judge-run-requires
     (λ c κs. search needs)
     returns
     returns-2
     write-carry-requires
-    cast-t15
+    cast-t16
     (λ c. search needs)
     returns-3)

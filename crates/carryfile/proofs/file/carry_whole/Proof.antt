@@ -3,7 +3,7 @@ use denote.Ref.{now}
 use Rattle.model.specs.Model.{Run}
 use Rattle.openfile.specs.Head.{Tells}
 use Rattle.standing.specs.Carriable.{Reached}
-use Rattle.carryfile.proofs.EachAnswer.{reached, says-9, says-6}
+use Rattle.carryfile.proofs.EachAnswer.{reached, counted, says-9, says-6}
 use borrow.Author.Needs.{needs}
 use Rattle.carryfile.proofs.file.carry_whole.Statement.{statement}
 use Rattle.carryfile.proofs.file.carry_whole.Tie as tie
@@ -17,17 +17,25 @@ returns-2 c =
     says-6 T _ _ (c .before .before .may-carry .ensures) (c .before .if1 .left) (c .before .before .before .jobs-by .ensures ρ T) (c .if2 .taken)
 
 -- neither test refuses
-reaches : (c : tie.Else2) → let a = c .before .before .before .before .before .before .before .args in (ρ : Run) → Tells (now (a .file)) (a .head) ρ → Reached ρ (a .horizon) (c .before .before .before .jobs-by .result)
+reaches : (c : tie.Else2) → let a = c .before .before .before .before .before .before .before .args in (ρ : Run)
+    → Tells (now (a .file)) (a .head) ρ → Reached ρ (a .horizon)
 reaches c ρ T = reached T _ (c .before .before .may-carry .ensures) (c .before .if1 .left) (c .before .before .before .jobs-by .ensures ρ T) (c .if2 .left)
 
 cast-carry-to : tie.Need-cast-carry-to
-cast-carry-to c = let (ρ, T) = c .before .before .before .before .before .before .before .pre in omega (arith, reaches c ρ T .few)
+cast-carry-to c =
+    let (ρ, T) = c .before .before .before .before .before .before .before .pre in
+    omega (arith, reaches c ρ T .few, c .before .before .before .jobs-by .ensures ρ T)
 
 carry-to-requires : tie.Need-carry-to-requires
-carry-to-requires c κs = let (ρ, T) = c .before .before .before .before .before .before .before .before .pre in (ρ, T, reaches (c .before) ρ T)
+carry-to-requires c κs =
+    let (ρ, T) = c .before .before .before .before .before .before .before .before .pre in
+    (ρ, T, reaches (c .before) ρ T, counted ρ _ (c .before .before .before .before .jobs-by .ensures ρ T))
 
 returns-3 : tie.Need-returns-3
-returns-3 c = let (ρ, T) = c .before .before .before .before .before .before .before .before .before .before .before .pre in c .before .before .carry-to .ensures ρ T (reaches (c .before .before .before .before) ρ T)
+returns-3 c =
+    let (ρ, T) = c .before .before .before .before .before .before .before .before .before .before .before .pre in
+    let m = counted ρ _ (c .before .before .before .before .before .before .before .jobs-by .ensures ρ T) in
+    c .before .before .carry-to .ensures ρ T (reaches (c .before .before .before .before) ρ T) m
 
 pub carry-whole-spec : {M : Type 1} → statement M
 carry-whole-spec =

@@ -4,6 +4,7 @@ use borrow.Author.Needs.{needs}
 use denote.Ref.{now}
 use Rattle.model.specs.Model.{Run}
 use Rattle.openfile.specs.Head.{Tells}
+use Rattle.openfile.proofs.Leading.{leads-front}
 use Rattle.openfile.proofs.WholeOrRefused.{whole-tells, refused-tells}
 use Rattle.checkfile.proofs.ByHead.{check-whole, check-refused}
 use Rattle.checkfile.proofs.file.check_file.Statement.{statement}
@@ -16,10 +17,15 @@ run c = whole-tells _ _ (sym (c .before .head .given .1) ∙ c .before .before .
 returns : tie.Need-returns
 returns c = check-refused _ _ _ (refused-tells _ _ _ (sym (c .before .number .given .1) ∙ c .before .before .before .open-file .ensures))
 
+judge-run-requires : tie.Need-judge-run-requires
+judge-run-requires c κs =
+    let (ρ, T) = run (c .before) in
+    (ρ, T, leads-front _ (c .tasks-of .ensures ρ T))
+
 returns-2 : tie.Need-returns-2
 returns-2 c =
-    let (ρ, T) = run (c .before) in
-    c .judge-run .ensures ρ T ∙ check-whole _ ρ (T .reads)
+    let (ρ, T) = run (c .before .before) in
+    c .judge-run .ensures ρ T (leads-front _ (c .before .tasks-of .ensures ρ T)) ∙ check-whole _ ρ (T .reads)
 
 pub check-file-spec : {M : Type 1} → statement M
 check-file-spec =
@@ -29,5 +35,6 @@ check-file-spec =
     (λ c. search needs)
     (λ c. search needs)
     (λ c κs. run c)
+    judge-run-requires
     returns
     returns-2)

@@ -19,8 +19,8 @@ Least c =
 least : (c : tie.Joined2) → Least c
 least c =
     let p = c .before .before .before .before .before .before .pre in
-    ⊎-elim (λ w. rw (w .2) (all-begun _ _ _ _ (p .1) (p .5) (p .4) (omega arith) (omega arith) (w .1 .ensures)))
-    (λ w. rw (w .1) (not-begun _ _ _ _ (p .4) (omega arith)))
+    ⊎-elim (λ w. rw (w .2) (all-begun _ _ _ _ (p .beside .0) (p .untils) (p .starts) (omega arith) (omega arith) (w .1 .ensures)))
+    (λ w. rw (w .1) (not-begun _ _ _ _ (p .starts) (omega arith)))
     (c .if2 .came)
 
 returns : tie.Need-returns

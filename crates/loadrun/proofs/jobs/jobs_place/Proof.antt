@@ -1,11 +1,12 @@
 use borrow.Author.Needs.{needs}
-use Prim.Native.Nat.{_+_, _-_, _≤_}
-use mathlib.Core.Path.{sym, _∙_}
+use Prim.Native.Nat.{_+_, _-_, _≤_, _<_}
+use mathlib.Core.Path.{_∙_}
 use native.Mathlib.Omega.{arith}
+use lib.ListN.{length}
 use denote.Ref.{now}
-use Rattle.model.specs.Model.{Run, mostJobs, jobCount}
-use Rattle.openfile.specs.Head.{Tells}
-use Rattle.openfile.proofs.WholeOrRefused.{tells-limits, tells-setting, tells-task-count, tells-count, tells-task}
+use Rattle.model.specs.Model.{Run, mostTasks, mostJobs, jobCount}
+use Rattle.openfile.specs.Head.{Known}
+use Rattle.openfile.proofs.Leading.{known-setting, known-task-count, known-count}
 use Rattle.table.specs.Table.{Lent, recorded}
 use Rattle.table.proofs.LentLaws.{column-of}
 use Rattle.loadrun.proofs.SameJobs.{SameTo, same-none, NextTask, next-fits, task-same, task-differs, records-left, none-left}
@@ -13,27 +14,25 @@ use Rattle.loadrun.proofs.jobs.jobs_place.Statement.{statement}
 use Rattle.loadrun.proofs.jobs.jobs_place.Tie as tie
 
 abbrev Inv-loop : tie.InvT-loop
-Inv-loop file head t setting n at₀ i₀ at i = (i ≤ head .tasks) × (at ≤ mostJobs) × ((ρ : Run) → Tells file head ρ → Lent recorded ρ t n → SameTo ρ i at)
+Inv-loop head t tasks setting n at₀ i₀ at i = (i ≤ head .tasks) × (at ≤ mostJobs) × ((ρ : Run) → Known head tasks ρ → Lent recorded ρ t n → SameTo ρ i at)
 
 abbrev μ-loop : tie.MeasureT-loop
-μ-loop file head t setting n at₀ i₀ at i = head .tasks - i
+μ-loop head t tasks setting n at₀ i₀ at i = head .tasks - i
 
 -- what is known of a run where its jobs of task i are next
 next : (c : tie.After-column2 Inv-loop μ-loop)
-    → let a = c .before .before .before .before .before .before .before .before .before .before .before .args in
+    → let a = c .before .before .before .before .before .before .before .before .before .before .args in
     let l = c .before .before .before .before .before .before .loop in
-    (ρ : Run) → Tells (now (a .file)) (a .head) ρ → Lent recorded ρ (now (a .t)) (a .head .records)
+    (ρ : Run) → Known (a .head) (a .t2) ρ → Lent recorded ρ (now (a .t)) (a .head .records)
     → NextTask ρ (now (c .before .column .result)) (now (c .column2 .result)) (l .i) (l .at) (c .before .before .jobs .result)
-next c ρ T L =
+next c ρ K L =
     let s = c .before .before .before .before in
     let i = s .before .before .loop .i in
-    let h = s .if1 .taken in
+    let is-task : i < length (ρ .tasks) = omega (arith, known-task-count K, s .if1 .taken) in
     record {
-      to-here = s .before .before .loop .inv .2 ρ T L;
-      is-task = omega (arith, tells-task-count T);
-      counted =
-          c .before .before .jobs .ensures
-          ∙ (λ κ. jobCount ((c .before .before .before .task-at .ensures ∙ sym (tells-task T i h)) κ) (tells-setting T κ .horizon));
+      to-here = s .before .before .loop .inv .2 ρ K L;
+      is-task = is-task;
+      counted = c .before .before .jobs .ensures ∙ (λ κ. jobCount (K .tasks .each i is-task κ) (known-setting K κ .horizon));
       tasks = rw (c .before .column .ensures .0) (column-of L 0 (omega arith) (omega arith));
       numbers = rw (c .column2 .ensures .0) (column-of L 1 (omega arith) (omega arith));
     }
@@ -41,17 +40,23 @@ next c ρ T L =
 few : (c : tie.After-column2 Inv-loop μ-loop)
     → c .before .before .before .before .before .before .loop .at + c .before .before .jobs .result ≤ mostJobs
 few c =
-    let (ρ, T, L) = c .before .before .before .before .before .before .before .before .before .before .before .pre in
-    next-fits (next c ρ T L) (tells-limits T)
+    let (ρ, K, L) = c .before .before .before .before .before .before .before .before .before .before .pre in
+    next-fits (next c ρ K L) (K .limits)
+
+-- the task is one of the list
+within : (c : tie.Then1 Inv-loop μ-loop) → c .before .before .loop .i < mostTasks
+within c =
+    let (ρ, K, L) = c .before .before .before .before .before .before .pre in
+    omega (arith, known-task-count K, K .limits .task-count .1)
 
 loop-holds : tie.Need-loop-holds Inv-loop μ-loop
-loop-holds c = (search needs, search needs, λ ρ T L. same-none ρ)
+loop-holds c = (search needs, search needs, λ ρ K L. same-none ρ)
 
 task-place-requires : tie.Need-task-place-requires Inv-loop μ-loop
-task-place-requires c κs = (search needs, search needs, few c)
+task-place-requires c κs = (search needs, few c)
 
 returns : tie.Need-returns Inv-loop μ-loop
-returns c = λ ρ T L. task-differs (next (c .before .before .before .before) ρ T L) (c .before .before .before .task-place .ensures) (c .before .k .given .1)
+returns c = λ ρ K L. task-differs (next (c .before .before .before .before) ρ K L) (c .before .before .before .task-place .ensures) (c .before .k .given .1)
 
 add-at : tie.Need-add-at Inv-loop μ-loop
 add-at c = omega (arith, few (c .before .before .before))
@@ -59,17 +64,17 @@ add-at c = omega (arith, few (c .before .before .before))
 loop-again : tie.Need-loop-again Inv-loop μ-loop
 loop-again c =
     let p = c .before .before .before in
-    (omega arith, few p, λ ρ T L. task-same (next p ρ T L) (c .before .before .task-place .ensures) (c .enum-told .given .1))
+    (omega arith, few p, λ ρ K L. task-same (next p ρ K L) (c .before .before .task-place .ensures) (c .enum-told .given .1))
 
 returns-2 : tie.Need-returns-2 Inv-loop μ-loop
 returns-2 c =
     let s = c .before .before .before .loop in
-    λ ρ T L. records-left (s .inv .2 ρ T L) (omega (arith, tells-task-count T)) (omega (arith, tells-count T))
+    λ ρ K L. records-left (s .inv .2 ρ K L) (omega (arith, known-task-count K)) (omega (arith, known-count K))
 
 returns-3 : tie.Need-returns-3 Inv-loop μ-loop
 returns-3 c =
     let s = c .before .before .before .loop in
-    λ ρ T L. none-left (s .inv .2 ρ T L) (omega (arith, tells-task-count T)) (omega (arith, tells-count T))
+    λ ρ K L. none-left (s .inv .2 ρ K L) (omega (arith, known-task-count K)) (omega (arith, known-count K))
 
 pub jobs-place-spec : {M : Type 1} → statement M
 jobs-place-spec =
@@ -79,7 +84,9 @@ jobs-place-spec =
     μ-loop
     (λ c. search needs)
     loop-holds
-    (λ c κs. search needs)
+    (λ c. search needs)
+    (λ c. omega (arith, within c))
+    (λ c. omega (arith, within c))
     (λ c κs. search needs)
     (λ c. search needs)
     (λ c κs. search needs)

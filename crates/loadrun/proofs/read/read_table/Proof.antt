@@ -25,7 +25,7 @@ within c =
     omega (arith, column-within columns (c .before .before .loop .j) n (omega arith))
 
 loop-holds : tie.Need-loop-holds Inv-loop μ-loop
-loop-holds c = (search needs, search needs, λ ρ S. read-none S _ (c .before .before .before .before .pre .0))
+loop-holds c = (search needs, search needs, λ ρ S. read-none S _ (c .before .before .before .before .pre .0 .long))
 
 mul-read-column-2 : tie.Need-mul-read-column-2 Inv-loop μ-loop
 mul-read-column-2 c = omega (arith, within c)
@@ -34,7 +34,12 @@ read-column-requires : tie.Need-read-column-requires Inv-loop μ-loop
 read-column-requires c κs =
     let T = c .before .before .before .before .before .before .before .pre .1 .1 in
     let few = tells-few T in
-    (omega (arith, tells-place T), omega arith, omega (arith, tells-place T, tells-size T), omega (arith, within c))
+    record {
+      place = omega (arith, tells-place T);
+      few = omega arith;
+      there = omega (arith, tells-place T, tells-size T);
+      room = omega (arith, within c);
+    }
 
 loop-again : tie.Need-loop-again Inv-loop μ-loop
 loop-again c =

@@ -6,14 +6,8 @@ use Rattle.openfile.proofs.Tallied.{tallied-out, tallied-jobs}
 use Rattle.openfile.proofs.judge.judge_tasks.Statement.{statement}
 use Rattle.openfile.proofs.judge.judge_tasks.Tie as tie
 
-add-if1 : tie.Need-add-if1
-add-if1 c = search needs
-
 returns : tie.Need-returns
 returns c = tasks-uncounted _ _ (omega arith)
-
-num-at-requires : tie.Need-num-at-requires
-num-at-requires c κs = search needs
 
 returns-2 : tie.Need-returns-2
 returns-2 c = tasks-miscounted _ _ (omega arith) (λ h. omega arith)
@@ -21,29 +15,11 @@ returns-2 c = tasks-miscounted _ _ (omega arith) (λ h. omega arith)
 returns-3 : tie.Need-returns-3
 returns-3 c = tasks-miscounted _ _ (omega arith) (λ h. omega arith)
 
-records-place-requires : tie.Need-records-place-requires
-records-place-requires c κs = search needs
-
 returns-4 : tie.Need-returns-4
 returns-4 c = tasks-cut _ _ (omega arith)
 
-tally-tasks-requires : tie.Need-tally-tasks-requires
-tally-tasks-requires c κs = search needs
-
-enum-known-i : tie.Need-enum-known-i
-enum-known-i c = search needs
-
-enum-known-jobs : tie.Need-enum-known-jobs
-enum-known-jobs c = search needs
-
-cast-if5 : tie.Need-cast-if5
-cast-if5 c = search needs
-
 returns-5 : tie.Need-returns-5
 returns-5 c = jobs-many _ _ (omega arith) (c .before .before .before .before .before .before .before .before .before .num-at .ensures) (tallied-jobs (c .before .before .before .before .tally-tasks .ensures) (c .before .before .jobs .given .1)) (omega arith)
-
-judge-records-requires : tie.Need-judge-records-requires
-judge-records-requires c κs = search needs
 
 returns-6 : tie.Need-returns-6
 returns-6 c = tasks-out _ _ (omega arith) (c .before .before .before .before .before .before .before .before .num-at .ensures) (tallied-out (c .before .before .before .tally-tasks .ensures) (c .before .i .given .1))
@@ -55,18 +31,18 @@ pub judge-tasks-spec : {M : Type 1} → statement M
 judge-tasks-spec =
     tie.close
     (tie.spec
-    add-if1
+    (λ c. search needs)
     returns
-    num-at-requires
+    (λ c κs. search needs)
     returns-2
     returns-3
-    records-place-requires
+    (λ c κs. search needs)
     returns-4
-    tally-tasks-requires
-    enum-known-i
-    enum-known-jobs
-    cast-if5
+    (λ c κs. search needs)
+    (λ c. search needs)
+    (λ c. search needs)
+    (λ c. search needs)
     returns-5
-    judge-records-requires
+    (λ c κs. search needs)
     returns-6
     returns-7)

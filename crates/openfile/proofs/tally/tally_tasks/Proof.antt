@@ -11,32 +11,8 @@ Inv-loop file n horizon sum₀ i₀ sum i = (i ≤ n) × TalliedTo file horizon 
 abbrev μ-loop : tie.MeasureT-loop
 μ-loop file n horizon sum₀ i₀ sum i = n - i
 
-loop-holds : tie.Need-loop-holds Inv-loop μ-loop
-loop-holds c = search (needs, tally-yet)
-
-task-at-requires : tie.Need-task-at-requires Inv-loop μ-loop
-task-at-requires c κs = search needs
-
-in-range-requires : tie.Need-in-range-requires Inv-loop μ-loop
-in-range-requires c κs = search needs
-
 returns : tie.Need-returns Inv-loop μ-loop
 returns c = tally-out (c .before .before .before .before .loop .inv .1) (search needs) (cc)
-
-jobs-requires : tie.Need-jobs-requires Inv-loop μ-loop
-jobs-requires c κs = search needs
-
-cast-sum : tie.Need-cast-sum Inv-loop μ-loop
-cast-sum c = search needs
-
-add-sum : tie.Need-add-sum Inv-loop μ-loop
-add-sum c = search needs
-
-add-i : tie.Need-add-i Inv-loop μ-loop
-add-i c = search needs
-
-loop-less : tie.Need-loop-less Inv-loop μ-loop
-loop-less c = search needs
 
 loop-again : tie.Need-loop-again Inv-loop μ-loop
 loop-again c = (search needs, tally-on (c .before .before .before .before .before .loop .inv .1) (search needs) (cc) (cc) (search needs))
@@ -50,14 +26,15 @@ tally-tasks-spec =
     (tie.spec
     Inv-loop
     μ-loop
-    loop-holds
-    task-at-requires
-    in-range-requires
+    (λ c. search (needs, tally-yet))
+    (λ c. search needs)
+    (λ c κs. search needs)
+    (λ c κs. search needs)
     returns
-    jobs-requires
-    cast-sum
-    add-sum
-    add-i
-    loop-less
+    (λ c κs. search needs)
+    (λ c. search needs)
+    (λ c. search needs)
+    (λ c. search needs)
+    (λ c. search needs)
     loop-again
     returns-2)

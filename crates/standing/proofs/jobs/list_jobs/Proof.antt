@@ -1,21 +1,22 @@
 use Prim.Native.Nat.{_+_, _-_, _≤_}
 use borrow.Author.Needs.{needs}
-use Rattle.standing.proofs.JobRows.{Listing, listing-none, room, listing-on, listing-all}
+use Rattle.standing.proofs.JobRows.{Listing, listing-none, fitting, listing-on, listing-all}
 use Rattle.standing.proofs.jobs.list_jobs.Statement.{statement}
 use Rattle.standing.proofs.jobs.list_jobs.Tie as tie
 
 abbrev Inv-loop : tie.InvT-loop
-Inv-loop file n horizon t₀ m at₀ i₀ t at i = Listing file n horizon t₀ m t at i
+Inv-loop n horizon t₀ m tasks at₀ i₀ t at i = Listing tasks n horizon t₀ m t at i
 
 abbrev μ-loop : tie.MeasureT-loop
-μ-loop file n horizon t₀ m at₀ i₀ t at i = n - i
+μ-loop n horizon t₀ m tasks at₀ i₀ t at i = n - i
 
 loop-holds : tie.Need-loop-holds Inv-loop μ-loop
-loop-holds c = listing-none (c .before .before .pre .1 .1) (c .before .before .pre .0)
+loop-holds c = let (S, (σ, J)) = c .before .pre in listing-none S J
 
 -- there is room for the jobs of the next task
-fits : (c : tie.After-jobs Inv-loop μ-loop) → c .before .before .before .loop .at + c .jobs .result ≤ c .before .before .before .before .before .before .args .m
-fits c = room (c .before .before .before .loop .inv) (c .before .before .loop-test .taken) (c .before .task-at .ensures) (c .jobs .ensures)
+fits : (c : tie.After-jobs Inv-loop μ-loop)
+    → c .before .before .before .loop .at + c .jobs .result ≤ c .before .before .before .before .before .args .m
+fits c = let test = c .before .before in fitting (test .before .loop .inv) (test .loop-test .taken) (c .jobs .ensures)
 
 list-task-requires : tie.Need-list-task-requires Inv-loop μ-loop
 list-task-requires c κs = let l = fits (c .before) in search needs
@@ -27,9 +28,8 @@ loop-again : tie.Need-loop-again Inv-loop μ-loop
 loop-again c =
     let call = c .before .before in
     let jobs = call .before .before in
-    listing-on
-    (jobs .before .before .before .loop .inv) (jobs .before .before .loop-test .taken) (jobs .before .task-at .ensures) (jobs .jobs .ensures)
-    (search needs) (call .list-task .ensures)
+    let test = jobs .before .before in
+    listing-on (test .before .loop .inv) (test .loop-test .taken) (jobs .jobs .ensures) (search needs) (call .list-task .ensures)
 
 returns : tie.Need-returns Inv-loop μ-loop
 returns c = listing-all (c .before .loop .inv) (c .loop-test .left)
@@ -41,7 +41,9 @@ list-jobs-spec =
     Inv-loop
     μ-loop
     loop-holds
-    (λ c κs. search needs)
+    (λ c. search needs)
+    (λ c. search needs)
+    (λ c. search needs)
     (λ c κs. search needs)
     (λ c. search needs)
     list-task-requires

@@ -1,34 +1,26 @@
 use mathlib.Core.Path.{sym, _∙_, ap}
-use native.Mathlib.Omega.{arith}
 use Rattle.base.specs.Find.{seen}
 use Rattle.model.specs.Carry.{unbegun}
-use Rattle.model.specs.Model.{arrival}
 use Rattle.standing.proofs.OfJob.{new-is, old-is, kept-is}
 use borrow.Author.Needs.{needs}
 use Rattle.standing.proofs.records.standing.Statement.{statement}
 use Rattle.standing.proofs.records.standing.Tie as tie
 
-cast-waiting : tie.Need-cast-waiting
-cast-waiting c =
-    let a = c .before .before .before .before .before .args in
-    let e = c .arrival .ensures ∙ ap (λ τ. arrival τ (a .j)) (c .before .task-at .ensures) in
-    omega (arith, c .before .before .before .before .before .pre)
-
 returns : tie.Need-returns
-returns c ρ T w l =
-    let a = c .before .before .before .before .before .before .args in
+returns c ρ T e w =
+    let a = c .before .before .before .before .before .args in
     c .waiting .ensures
     ∙ ap (unbegun (a .i, a .j)) (c .before .arrival .ensures)
-    ∙ new-is T (a .i, a .j) l (sym (ap seen (c .before .before .before .enum-told .given .1)) ∙ w) (c .before .before .task-at .ensures)
+    ∙ new-is T (a .i, a .j) e (sym (ap seen (c .before .before .enum-told .given .1)) ∙ w)
 
 returns-2 : tie.Need-returns-2
-returns-2 c ρ T w l =
+returns-2 c ρ T e w =
     let told = c .before .before .before .before in
     c .waiting2 .ensures
     ∙ old-is T _ (sym (ap seen (told .before .before .before .found .given .1)) ∙ w) (told .record-at .ensures) (c .before .if1 .taken)
 
 returns-3 : tie.Need-returns-3
-returns-3 c ρ T w l =
+returns-3 c ρ T e w =
     let told = c .before .before .before in
     kept-is T _ (sym (ap seen (told .before .before .before .found .given .1)) ∙ w) (told .record-at .ensures) (c .if1 .left)
 
@@ -39,8 +31,7 @@ standing-spec =
     (λ c. search needs)
     (λ c. search needs)
     (λ c κs. search needs)
-    (λ c κs. search needs)
-    cast-waiting
+    (λ c. search needs)
     (λ c κs. search needs)
     returns
     (λ c κs. search needs)

@@ -4,6 +4,7 @@ use mathlib.Core.Path.{_≡_, refl}
 use native.Mathlib.Omega.{arith}
 use borrow.Author.Needs.{needs}
 use lib.ListN.{length, getD}
+use Rattle.model.specs.Model.{mostCores}
 use Rattle.starts.specs.Cores.{Lasts}
 use Rattle.starts.proofs.Taking.{zeros, no-ends, one-end}
 use Rattle.starts.proofs.cores.last_ends.Statement.{statement}
@@ -16,8 +17,8 @@ abbrev μ-loop : tie.MeasureT-loop
 μ-loop end core taken₀ k₀ taken k = length core - k
 
 -- the core of job k
-small : (c : tie.After-shared-slice-known3 Inv-loop μ-loop) → getD (c .before .before .before .before .before .args .core .now) (c .before .before .loop .k) 0 ≤ 16
-small c = c .before .before .before .before .before .pre .1 (c .before .before .loop .k)
+small : (c : tie.After-shared-slice-known3 Inv-loop μ-loop) → getD (c .before .before .before .before .before .args .core .now) (c .before .before .loop .k) 0 ≤ mostCores
+small c = c .before .before .before .before .before .pre .cores (c .before .before .loop .k)
 
 loop-holds : tie.Need-loop-holds Inv-loop μ-loop
 loop-holds c = (search needs, no-ends refl (zeros 17))

@@ -1,4 +1,4 @@
--- The table is loaded, rule 1 judged over the file's tasks, until when each record may be released is filled in, and rules 2 and 3 are judged before the rest. Assumes nothing.
+-- The table is loaded, rule 1 judged over the tasks, until when each record may be released is filled in, and rules 2 and 3 are judged before the rest. Assumes nothing.
 use mathlib.Core.Path.{_≡_, sym, _∙_, ap}
 use mathlib.Core.Option.{none, Option·map}
 use native.Mathlib.Omega.{arith}
@@ -9,26 +9,34 @@ use Rattle.model.specs.Model.{Run}
 use Rattle.model.specs.Rules.{Jobs, rule1}
 use Rattle.model.specs.Compute.Places.{one, find}
 use Rattle.model.proofs.Places.{found-nothing}
-use Rattle.openfile.specs.Head.{Tells}
+use Rattle.openfile.specs.Head.{Tells, Leads}
+use Rattle.openfile.proofs.Leading.{tells-known}
+use Rattle.openfile.proofs.WholeOrRefused.{tells-setting}
+use Rattle.times.proofs.RowAfterRow.{listed-first, listed-next}
 use Rattle.verdict.proofs.RulesFrom.{Past, verdict-first, broken, held, passed}
-use Rattle.verdict.proofs.Told.{listed, fillable}
 use Rattle.verdict.proofs.run.judge_table.Statement.{statement}
 use Rattle.verdict.proofs.run.judge_table.Tie as tie
 
+-- of which run the rules are judged
 abbrev Told : tie.Start → Run → Type 0
-Told s ρ = Tells (now (s .args .file)) (s .args .head) ρ
+Told s ρ = Tells (now (s .args .file)) (s .args .head) ρ × Leads ρ (s .args .tasks)
 
 jobs-place-requires : tie.Need-jobs-place-requires
-jobs-place-requires c κs = let (ρ, T) = c .before .before .before .before .before .before .before .before .pre .1 in (ρ, T, c .before .before .before .read-table .ensures ρ T .lent)
+jobs-place-requires c κs =
+    let (ρ, T, L) = c .before .before .before .before .before .before .before .before .pre .1 in
+    (ρ, tells-known T L, c .before .before .before .read-table .ensures ρ T .lent)
 
 returns : tie.Need-returns
-returns c ρ T =
-    broken ρ one 1 (omega arith) (c .before .before .before .jobs-place .ensures ρ T (c .before .before .before .before .before .before .before .read-table .ensures ρ T .lent)) (ap seen (c .before .k .given .1))
+returns c ρ T L =
+    let read = c .before .before .before .before .before .before .before .read-table in
+    broken ρ one 1 (omega arith) (c .before .before .before .jobs-place .ensures ρ (tells-known T L) (read .ensures ρ T .lent)) (ap seen (c .before .k .given .1))
     ∙ sym (verdict-first ρ)
 
 -- rule 1 holds
 found-none : (c : tie.After-enum-told) (ρ : Run) → Told (c .before .before .before .before .before .before .before .before .before .before .before) ρ → find rule1 ρ ≡ none
-found-none c ρ T = sym (c .before .before .jobs-place .ensures ρ T (c .before .before .before .before .before .before .read-table .ensures ρ T .lent)) ∙ ap (Option·map one) (ap seen (c .enum-told .given .1))
+found-none c ρ (T, L) =
+    let read = c .before .before .before .before .before .before .read-table in
+    sym (c .before .before .jobs-place .ensures ρ (tells-known T L) (read .ensures ρ T .lent)) ∙ ap (Option·map one) (ap seen (c .enum-told .given .1))
 
 past-1 : (c : tie.After-enum-told) → Past (Told (c .before .before .before .before .before .before .before .before .before .before .before)) 1 2
 past-1 c ρ T = held ρ 1 (omega arith) (found-none c ρ T)
@@ -38,47 +46,64 @@ jobs c ρ T = found-nothing rule1 ρ .0 (found-none c ρ T)
 
 fill-times-requires : tie.Need-fill-times-requires
 fill-times-requires c κs =
-    let (ρ, T) = c .before .before .before .before .before .before .before .before .before .before .before .before .before .pre .1 in fillable T (jobs (c .before .before) ρ T) (c .before .before .before .before .before .before .before .before .read-table .ensures ρ T .lent)
+    let (ρ, T, L) = c .before .before .before .before .before .before .before .before .before .before .before .before .pre .1 in
+    (ρ, listed-first L (jobs (c .before) ρ (T, L)) (c .before .before .before .before .before .before .before .read-table .ensures ρ T))
 
 released-requires : tie.Need-released-requires
 released-requires c κs =
-    let (ρ, T) = c .before .before .before .before .before .before .before .before .before .before .before .before .before .before .before .before .before .pre .1 in (ρ, c .before .before .before .fill-times .ensures ρ (listed T (jobs (c .before .before .before .before .before .before) ρ T) (c .before .before .before .before .before .before .before .before .before .before .before .before .read-table .ensures ρ T .lent)) .lent)
+    let (ρ, T, L) = c .before .before .before .before .before .before .before .before .before .before .before .before .before .before .before .before .pre .1 in
+    let read = c .before .before .before .before .before .before .before .before .before .before .before .read-table in
+    (ρ, c .before .before .before .fill-times .ensures ρ (listed-first L (jobs (c .before .before .before .before .before) ρ (T, L)) (read .ensures ρ T)) .lent)
 
-past-2 : (c : tie.After-enum-told2) → Past (Told (c .before .before .before .before .before .before .before .before .before .before .before .before .before .before .before .before .before .before .before .before)) 1 3
-past-2 c ρ T =
-    past-1 (c .before .before .before .before .before .before .before .before .before) ρ T
-    ∙ passed ρ one 2 (omega arith) (c .before .before .released .ensures ρ (c .before .before .before .before .before .before .fill-times .ensures ρ (listed T (jobs (c .before .before .before .before .before .before .before .before .before) ρ T) (c .before .before .before .before .before .before .before .before .before .before .before .before .before .before .before .read-table .ensures ρ T .lent)) .lent)) (ap seen (c .enum-told2 .given .1))
+past-2 : (c : tie.After-enum-told2) → Past (Told (c .before .before .before .before .before .before .before .before .before .before .before .before .before .before .before .before .before .before .before)) 1 3
+past-2 c ρ (T, L) =
+    let rule-1 = c .before .before .before .before .before .before .before .before in
+    let read = c .before .before .before .before .before .before .before .before .before .before .before .before .before .before .read-table in
+    let filled = c .before .before .before .before .before .before .fill-times in
+    past-1 rule-1 ρ (T, L)
+    ∙ passed ρ one 2 (omega arith) (c .before .before .released .ensures ρ (filled .ensures ρ (listed-first L (jobs rule-1 ρ (T, L)) (read .ensures ρ T)) .lent)) (ap seen (c .enum-told2 .given .1))
 
 returns-2 : tie.Need-returns-2
-returns-2 c ρ T =
-    broken ρ one 2 (omega arith) (c .before .before .before .released .ensures ρ (c .before .before .before .before .before .before .before .fill-times .ensures ρ (listed T (jobs (c .before .before .before .before .before .before .before .before .before .before) ρ T) (c .before .before .before .before .before .before .before .before .before .before .before .before .before .before .before .before .read-table .ensures ρ T .lent)) .lent)) (ap seen (c .before .k2 .given .1))
-    ∙ sym (verdict-first ρ ∙ past-1 (c .before .before .before .before .before .before .before .before .before .before) ρ T)
+returns-2 c ρ T L =
+    let rule-1 = c .before .before .before .before .before .before .before .before .before in
+    let read = c .before .before .before .before .before .before .before .before .before .before .before .before .before .before .before .read-table in
+    let filled = c .before .before .before .before .before .before .before .fill-times in
+    broken ρ one 2 (omega arith) (c .before .before .before .released .ensures ρ (filled .ensures ρ (listed-first L (jobs rule-1 ρ (T, L)) (read .ensures ρ T)) .lent)) (ap seen (c .before .k2 .given .1))
+    ∙ sym (verdict-first ρ ∙ past-1 rule-1 ρ (T, L))
 
 started-requires : tie.Need-started-requires
 started-requires c κs =
-    let (ρ, T) = c .before .before .before .before .before .before .before .before .before .before .before .before .before .before .before .before .before .before .before .before .before .pre .1 in (ρ, c .before .before .before .before .before .before .before .fill-times .ensures ρ (listed T (jobs (c .before .before .before .before .before .before .before .before .before .before) ρ T) (c .before .before .before .before .before .before .before .before .before .before .before .before .before .before .before .before .read-table .ensures ρ T .lent)) .lent)
+    let (ρ, T, L) = c .before .before .before .before .before .before .before .before .before .before .before .before .before .before .before .before .before .before .before .before .pre .1 in
+    let read = c .before .before .before .before .before .before .before .before .before .before .before .before .before .before .before .read-table in
+    (ρ, c .before .before .before .before .before .before .before .fill-times .ensures ρ (listed-first L (jobs (c .before .before .before .before .before .before .before .before .before) ρ (T, L)) (read .ensures ρ T)) .lent)
 
-past-3 : (c : tie.After-enum-told3) → Past (Told (c .before .before .before .before .before .before .before .before .before .before .before .before .before .before .before .before .before .before .before .before .before .before .before .before)) 1 4
-past-3 c ρ T =
-    past-2 (c .before .before .before .before) ρ T
-    ∙ passed ρ one 3 (omega arith) (c .before .before .started .ensures ρ (c .before .before .before .before .before .before .before .before .before .before .fill-times .ensures ρ (listed T (jobs (c .before .before .before .before .before .before .before .before .before .before .before .before .before) ρ T) (c .before .before .before .before .before .before .before .before .before .before .before .before .before .before .before .before .before .before .before .read-table .ensures ρ T .lent)) .lent)) (ap seen (c .enum-told3 .given .1))
+past-3 : (c : tie.After-enum-told3) → Past (Told (c .before .before .before .before .before .before .before .before .before .before .before .before .before .before .before .before .before .before .before .before .before .before .before)) 1 4
+past-3 c ρ (T, L) =
+    let rule-1 = c .before .before .before .before .before .before .before .before .before .before .before .before in
+    let read = c .before .before .before .before .before .before .before .before .before .before .before .before .before .before .before .before .before .before .read-table in
+    let filled = c .before .before .before .before .before .before .before .before .before .before .fill-times in
+    past-2 (c .before .before .before .before) ρ (T, L)
+    ∙ passed ρ one 3 (omega arith) (c .before .before .started .ensures ρ (filled .ensures ρ (listed-first L (jobs rule-1 ρ (T, L)) (read .ensures ρ T)) .lent)) (ap seen (c .enum-told3 .given .1))
 
 returns-3 : tie.Need-returns-3
-returns-3 c ρ T =
-    broken ρ one 3 (omega arith) (c .before .before .before .started .ensures ρ (c .before .before .before .before .before .before .before .before .before .before .before .fill-times .ensures ρ (listed T (jobs (c .before .before .before .before .before .before .before .before .before .before .before .before .before .before) ρ T) (c .before .before .before .before .before .before .before .before .before .before .before .before .before .before .before .before .before .before .before .before .read-table .ensures ρ T .lent)) .lent)) (ap seen (c .before .k3 .given .1))
-    ∙ sym (verdict-first ρ ∙ past-2 (c .before .before .before .before .before) ρ T)
+returns-3 c ρ T L =
+    let rule-1 = c .before .before .before .before .before .before .before .before .before .before .before .before .before in
+    let read = c .before .before .before .before .before .before .before .before .before .before .before .before .before .before .before .before .before .before .before .read-table in
+    let filled = c .before .before .before .before .before .before .before .before .before .before .before .fill-times in
+    broken ρ one 3 (omega arith) (c .before .before .before .started .ensures ρ (filled .ensures ρ (listed-first L (jobs rule-1 ρ (T, L)) (read .ensures ρ T)) .lent)) (ap seen (c .before .k3 .given .1))
+    ∙ sym (verdict-first ρ ∙ past-2 (c .before .before .before .before .before) ρ (T, L))
 
 judge-lengths-requires : tie.Need-judge-lengths-requires
 judge-lengths-requires c κs =
-    let (ρ, T) = c .before .before .before .before .before .before .before .before .before .before .before .before .before .before .before .before .before .before .before .before .before .before .before .before .before .pre .1 in
-    let J = jobs (c .before .before .before .before .before .before .before .before .before .before .before .before .before .before) ρ T in
-    (ρ, T, J, c .before .before .before .before .before .before .before .before .before .before .before .fill-times .ensures ρ (listed T J (c .before .before .before .before .before .before .before .before .before .before .before .before .before .before .before .before .before .before .before .before .read-table .ensures ρ T .lent)) .lent)
+    let (ρ, T, L) = c .before .before .before .before .before .before .before .before .before .before .before .before .before .before .before .before .before .before .before .before .before .before .before .before .pre .1 in
+    let I = listed-first L (jobs (c .before .before .before .before .before .before .before .before .before .before .before .before .before) ρ (T, L)) (c .before .before .before .before .before .before .before .before .before .before .before .before .before .before .before .before .before .before .before .read-table .ensures ρ T) in
+    (ρ, listed-next I (c .before .before .before .before .before .before .before .before .before .before .before .fill-times .ensures ρ I), tells-setting T)
 
 returns-4 : tie.Need-returns-4
-returns-4 c ρ T =
-    let J = jobs (c .before .before .before .before .before .before .before .before .before .before .before .before .before .before .before .before .before) ρ T in
-    c .before .before .judge-lengths .ensures ρ T J (c .before .before .before .before .before .before .before .before .before .before .before .before .before .before .fill-times .ensures ρ (listed T J (c .before .before .before .before .before .before .before .before .before .before .before .before .before .before .before .before .before .before .before .before .before .before .before .read-table .ensures ρ T .lent)) .lent)
-    ∙ sym (verdict-first ρ ∙ past-3 (c .before .before .before .before) ρ T)
+returns-4 c ρ T L =
+    let I = listed-first L (jobs (c .before .before .before .before .before .before .before .before .before .before .before .before .before .before .before .before) ρ (T, L)) (c .before .before .before .before .before .before .before .before .before .before .before .before .before .before .before .before .before .before .before .before .before .before .read-table .ensures ρ T) in
+    c .before .before .judge-lengths .ensures ρ (listed-next I (c .before .before .before .before .before .before .before .before .before .before .before .before .before .before .fill-times .ensures ρ I)) (tells-setting T)
+    ∙ sym (verdict-first ρ ∙ past-3 (c .before .before .before .before) ρ (T, L))
 
 pub judge-table-spec : {M : Type 1} → statement M
 judge-table-spec =
@@ -90,7 +115,6 @@ judge-table-spec =
     (λ c. search needs)
     (λ c. search needs)
     returns
-    (λ c. search needs)
     (λ c. search needs)
     fill-times-requires
     released-requires

@@ -1,0 +1,38 @@
+-- A list that begins with a run's tasks, and what is known of the run by it. Assumes nothing.
+use Prim.Native.Nat.{ℕ}
+use mathlib.Core.Path.{_≡_, sym, _∙_, ap}
+use mathlib.Core.List.{List, _++_}
+use native.Mathlib.Omega.{arith}
+use lib.ListN.{length, take, length-append, List·getD-append}
+use lib.Seq.{length-take-le, getD-take, ext-getD}
+use Rattle.model.specs.declared.task.Task.{Task}
+use Rattle.model.specs.Model.{Run, task, noTask}
+use Rattle.openfile.specs.declared.head.Head.{Head}
+use Rattle.openfile.specs.Head.{Tells, Leads, Known}
+use Rattle.openfile.proofs.WholeOrRefused.{tells-limits}
+
+pub leads-front : {ρ : Run} {l : List Task} (rest : List Task) → l ≡ ρ .tasks ++ rest → Leads ρ l
+leads-front {ρ} rest e =
+    record {
+      room = omega (arith, ap length e ∙ length-append (ρ .tasks) rest);
+      each = λ i h. ap (λ τs. task τs i) e ∙ List·getD-append (ρ .tasks) rest noTask i h;
+    }
+
+-- the tasks are the first entries
+pub leads-take : {ρ : Run} {l : List Task} {n : ℕ} → Leads ρ l → n ≡ length (ρ .tasks) → ρ .tasks ≡ take n l
+leads-take {ρ} {l} {n} L e =
+    let long : length (take n l) ≡ n = length-take-le n l (omega (arith, L .room)) in
+    ext-getD noTask (ρ .tasks) (take n l) (sym (long ∙ e)) (λ i h. sym (getD-take n l i noTask (omega arith) ∙ L .each i h))
+
+pub tells-known : {b : List ℕ} {h : Head} {l : List Task} {ρ : Run} → Tells b h ρ → Leads ρ l → Known h l ρ
+tells-known T L = record { limits = tells-limits T; head = T .head; tasks = L }
+
+module _ {h : Head} {l : List Task} {ρ : Run} (K : Known h l ρ) where
+  pub known-setting : h .setting ≡ ρ .setting
+  known-setting = ap (λ g. g .setting) (K .head)
+
+  pub known-task-count : h .tasks ≡ length (ρ .tasks)
+  known-task-count = ap (λ g. g .tasks) (K .head)
+
+  pub known-count : h .records ≡ length (ρ .records)
+  known-count = ap (λ g. g .records) (K .head)
