@@ -24,7 +24,7 @@ use Rattle.model.proofs.Jobs.{existing-total}
 use Rattle.openfile.specs.declared.head.Head.{Head}
 use Rattle.openfile.specs.Head.{Tells, Leads}
 use Rattle.openfile.proofs.WholeOrRefused.{tells-limits, tells-setting, tells-task-count}
-use Rattle.standing.specs.Carriable.{Reached}
+use Rattle.carrytheory.specs.Allowed.{Allowed}
 use Rattle.carryrun.specs.Writable.{Writable}
 use Rattle.carryfile.specs.ToldAndWritten.{Carries}
 
@@ -62,12 +62,12 @@ module _ (ρ : Run) {t : Bool} {f : Five} (e : t ≡ leb (f .answer) 2) (v : f �
   obeys n = accepted-exactly-if-obeyed ρ .0 (says-leb (verdict ρ .answer) 2 .sound (sym accepted ∙ holds n))
 
 module _ {b : List ℕ} {h : Head} {ρ : Run} (T : Tells b h ρ) where
-  pub writable : {l : List Task} {H′ m : ℕ} (room : ℕ) {s : ℕ} → Leads ρ l → Obeys ρ → Reached ρ H′ → m ≡ length (existing ρ H′)
+  pub writable : {l : List Task} {H′ m : ℕ} (room : ℕ) {s : ℕ} → Leads ρ l → Obeys ρ → Allowed ρ H′ → m ≡ length (existing ρ H′)
       → s ≡ sizeOf (h .tasks) m → not (leb s room) ≡ false → Writable b h l H′ m room ρ
   writable room {s} L O R count size n =
       record {
         obeys = O;
-        carriable = record { tells = T; tasks = L; jobs = O rule1; reached = R; count = count };
+        carriable = record { tells = T; tasks = L; jobs = O rule1; allowed = R; count = count };
         fits = rw size at (says-leb s room .sound (holds n));
       }
 
@@ -75,8 +75,8 @@ module _ {b : List ℕ} {h : Head} {ρ : Run} (T : Tells b h ρ) where
     far : t ≡ (leb (ρ .setting .horizon) H′ && leb H′ mostHorizon)
     far = e ∙ ap (λ σ. leb (σ .horizon) H′ && leb H′ mostHorizon) (tells-setting T)
 
-    pub reached : {m : ℕ} → not t ≡ false → m ≡ totalJobs (ρ .tasks) H′ → not (leb m mostJobs) ≡ false → Reached ρ H′
-    reached {m} n count l =
+    pub allowed : {m : ℕ} → not t ≡ false → m ≡ totalJobs (ρ .tasks) H′ → not (leb m mostJobs) ≡ false → Allowed ρ H′
+    allowed {m} n count l =
         let (longer, most) = says-and (says-leb (ρ .setting .horizon) H′) (says-leb H′ mostHorizon) .sound (sym far ∙ holds n) in
         record { longer = longer; most = most; few = rw count at (says-leb m mostJobs .sound (holds l)) }
 
@@ -104,7 +104,7 @@ module _ {b : List ℕ} {h : Head} {ρ : Run} (T : Tells b h ρ) (H′ : ℕ) (o
         (whole-is ∙ gate-opens 9 _ _ _ (sym (far T H′ e) ∙ holds n) (gate-closes 6 _ _ (ap (λ k. leb k mostJobs) (sym count) ∙ fails l)))
 
   -- by the run's own answer, and the size of the file that is to be written
-  module _ (R : Reached ρ H′) where
+  module _ (R : Allowed ρ H′) where
     abbrev out : List ℕ
     out = bytes (carried ρ H′)
 

@@ -18,7 +18,7 @@ ghost use lib.ListN.{length};
 ghost use Rattle.model.specs.Answers.{fiveOf};
 ghost use Rattle.model.specs.Model.{Run, mostHorizon, totalJobs, existing};
 ghost use Rattle.openfile.specs.Head.{Tells};
-ghost use Rattle.standing.specs.Carriable.{Reached};
+ghost use Rattle.carrytheory.specs.Allowed.{Allowed};
 ghost use Rattle.carryfile.specs.ToldAndWritten.{Carries};
 
 // Whether an answer accepts the run.
@@ -37,8 +37,8 @@ fn accepts(a: Answer) -> bool
 
 // The carry of a file to a horizon within the limits at which it has m jobs: 10, 11, or it is written.
 fn carry_to(file: &[u8], head: Head, horizon: u32, m: u32, output: &mut [u8]) -> Answer
-    requires { ⌜ ((ρ : Run) × Tells (now file) head ρ × Reached ρ horizon × (m ≡ length (existing ρ horizon))) ⌝ }
-    ensures { λ r. ⌜ ((ρ : Run) → Tells (now (file .entry)) head ρ → Reached ρ horizon → m ≡ length (existing ρ horizon)
+    requires { ⌜ ((ρ : Run) × Tells (now file) head ρ × Allowed ρ horizon × (m ≡ length (existing ρ horizon))) ⌝ }
+    ensures { λ r. ⌜ ((ρ : Run) → Tells (now (file .entry)) head ρ → Allowed ρ horizon → m ≡ length (existing ρ horizon)
         → Carries (now (file .entry)) horizon (now (output .entry)) (fiveOf r) (now (output .exit))) ⌝ }
 {
     let size = size_of(head.tasks, m);

@@ -10,7 +10,7 @@ use Rattle.model.specs.Carry.{opening, carried}
 use Rattle.model.proofs.Jobs.{existing-few}
 use Rattle.carrytheory.proofs.Demand3.{carried-setting, carried-tasks}
 use Rattle.openfile.specs.declared.head.Head.{Head}
-use Rattle.openfile.specs.Head.{Leads}
+use Rattle.openfile.proofs.Leading.{leads-same}
 use Rattle.openfile.proofs.WholeOrRefused.{tells-limits, tells-setting, tells-task-count}
 use Rattle.starts.specs.Opened.{Opened}
 use Rattle.writing.specs.RunOfTable.{Tabled}
@@ -18,13 +18,9 @@ use Rattle.table.specs.Table.{Lent, columns}
 use Rattle.table.proofs.LentLaws.{lent-fewer}
 use Rattle.carryrun.specs.Writable.{Writable}
 
--- two runs with the same tasks
-leads-same : {ρ σ : Run} {l : List Task} → σ .tasks ≡ ρ .tasks → Leads ρ l → Leads σ l
-leads-same e L = record { room = rw e (L .room); each = rw e (L .each) }
-
 module _ {b : List ℕ} {h : Head} {l : List Task} {H′ m room : ℕ} {ρ : Run} (W : Writable b h l H′ m room ρ) where
   pub few-jobs : m ≤ mostRecords
-  few-jobs = omega (arith, W .carriable .count, W .carriable .reached .few, existing-few ρ H′)
+  few-jobs = omega (arith, W .carriable .count, W .carriable .allowed .few, existing-few ρ H′)
 
   pub opened : {t : List ℕ} → Lent columns (opening ρ H′) t m → Opened ρ H′ (h .setting .cores) (h .setting .horizon) t m
   opened T =
@@ -34,16 +30,14 @@ module _ {b : List ℕ} {h : Head} {l : List Task} {H′ m room : ℕ} {ρ : Run
         obeys = W .obeys;
         cores = ap (λ s. s .cores) (tells-setting (K .tells));
         horizon = ap (λ s. s .horizon) (tells-setting (K .tells));
-        longer = rw (tells-setting (K .tells)) (K .reached .longer);
-        most = K .reached .most;
-        few = K .reached .few;
+        allowed = K .allowed;
         table = T;
       }
 
   pub tabled : {t : List ℕ} → Lent columns (carried ρ H′) t m → Tabled h H′ l t m (carried ρ H′)
   tabled T =
       let K = W .carriable in
-      let R = K .reached in
+      let R = K .allowed in
       let L = tells-limits (K .tells) in
       let same : carried ρ H′ .tasks ≡ ρ .tasks = carried-tasks ρ H′ L (W .obeys) (R .longer) (R .most) (R .few) in
       record {

@@ -18,6 +18,10 @@ leads-front {ρ} rest e =
       each = λ i h. ap (λ τs. task τs i) e ∙ List·getD-append (ρ .tasks) rest noTask i h;
     }
 
+-- of two runs with the same tasks
+pub leads-same : {ρ σ : Run} {l : List Task} → σ .tasks ≡ ρ .tasks → Leads ρ l → Leads σ l
+leads-same e L = record { room = rw e (L .room); each = rw e (L .each) }
+
 -- the tasks are the first entries
 pub leads-take : {ρ : Run} {l : List Task} {n : ℕ} → Leads ρ l → n ≡ length (ρ .tasks) → ρ .tasks ≡ take n l
 leads-take {ρ} {l} {n} L e =
@@ -26,13 +30,3 @@ leads-take {ρ} {l} {n} L e =
 
 pub tells-known : {b : List ℕ} {h : Head} {l : List Task} {ρ : Run} → Tells b h ρ → Leads ρ l → Known h l ρ
 tells-known T L = record { limits = tells-limits T; head = T .head; tasks = L }
-
-module _ {h : Head} {l : List Task} {ρ : Run} (K : Known h l ρ) where
-  pub known-setting : h .setting ≡ ρ .setting
-  known-setting = ap (λ g. g .setting) (K .head)
-
-  pub known-task-count : h .tasks ≡ length (ρ .tasks)
-  known-task-count = ap (λ g. g .tasks) (K .head)
-
-  pub known-count : h .records ≡ length (ρ .records)
-  known-count = ap (λ g. g .records) (K .head)

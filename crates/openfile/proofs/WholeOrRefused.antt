@@ -8,9 +8,10 @@ use native.Mathlib.Omega.{arith}
 use Rattle.model.specs.Model.{Run, WithinLimits, mostTasks, mostRecords, task, rec, noTask, noRecord}
 use Rattle.model.specs.File.{Read, refused, whole, read, num, settingAt, taskAt, recordAt, entries, tasksIn, runAt, tasksPlace, recordsPlace, recordPlace, taskSize, recordSize, sizeOf}
 use Rattle.model.proofs.Reading.{read-is, read-limits, read-length, length-entries, entries-at}
+use Rattle.runfile.specs.TasksThere.{TasksThere}
 use Rattle.openfile.specs.declared.head.Head.{Head}
 use Rattle.openfile.specs.declared.head.Opened.the-variants.{Refused, Whole}
-use Rattle.openfile.specs.Head.{openedOf, Tells}
+use Rattle.openfile.specs.Head.{headOf, openedOf, Tells}
 
 Whole≢Refused : {h : Head} {ν i : ℕ} → ¬ (Whole h ≡ Refused ν i)
 Whole≢Refused {h} {ν} {i} e = let z : true ≡ false = cc in true≢false z
@@ -33,18 +34,29 @@ refused-tells b ν i = go (read b) refl
 
 -- What is known of a head
 -- -----------------------
+module _ {h : Head} (ρ : Run) (e : h ≡ headOf ρ) where
+  pub head-setting : h .setting ≡ ρ .setting
+  head-setting = ap (λ g. g .setting) e
+
+  pub head-task-count : h .tasks ≡ length (ρ .tasks)
+  head-task-count = ap (λ g. g .tasks) e
+
+  pub head-count : h .records ≡ length (ρ .records)
+  head-count = ap (λ g. g .records) e
+
+-- and of the file that it is of
 module _ {b : List ℕ} {h : Head} {ρ : Run} (T : Tells b h ρ) where
   pub tells-limits : WithinLimits ρ
   tells-limits = read-limits b ρ (T .reads)
 
   pub tells-setting : h .setting ≡ ρ .setting
-  tells-setting = ap (λ g. g .setting) (T .head)
+  tells-setting = head-setting ρ (T .head)
 
   pub tells-task-count : h .tasks ≡ length (ρ .tasks)
-  tells-task-count = ap (λ g. g .tasks) (T .head)
+  tells-task-count = head-task-count ρ (T .head)
 
   pub tells-count : h .records ≡ length (ρ .records)
-  tells-count = ap (λ g. g .records) (T .head)
+  tells-count = head-count ρ (T .head)
 
   pub tells-place : h .«records_at» ≡ recordsPlace (h .tasks) + 4
   tells-place =
@@ -62,7 +74,7 @@ module _ {b : List ℕ} {h : Head} {ρ : Run} (T : Tells b h ρ) where
   tells-size = omega (arith, read-length b ρ (T .reads), tells-task-count, tells-count)
 
   -- the bytes of its tasks are there
-  pub tells-room : taskSize * h .tasks ≤ length b - (tasksPlace + 4)
+  pub tells-room : TasksThere b (h .tasks)
   tells-room = let e = tells-size in omega arith
 
   -- what stands in the file is the run's

@@ -1,1 +1,2 @@
 pub mod HasColumn
+pub mod TasksThere

@@ -5,9 +5,9 @@ use model::Record;
 use model::Setting;
 use model::Task;
 ghost use mathlib.Core.Path.{_≡_};
-ghost use Prim.Native.Nat.{_+_, _*_, _≤_};
-ghost use lib.ListN.{length};
+ghost use Prim.Native.Nat.{_+_, _*_};
 ghost use Rattle.model.specs.File.{num, settingAt, taskAt, recordAt, tasksPlace, recordsPlace, sizeOf, longestFile, taskSize, recordSize};
+ghost use Rattle.runfile.specs.TasksThere.{TasksThere};
 
 // How many bytes a task and a record have, and where the tasks' count stands.
 pub const TASK_SIZE: usize = 20;
@@ -27,7 +27,7 @@ pub fn setting_of(file: &[u8]) -> Setting
 
 // Task i of a file that has its bytes: no byte is asked whether it stands before the end.
 pub fn task_at(file: &[u8], i: usize) -> Task
-    requires { ⌜ tasksPlace + 4 + taskSize * i + taskSize ≤ length (now file) ⌝ }
+    requires { ⌜ TasksThere (now file) (i + 1) ⌝ }
     ensures { λ r. ⌜ r ≡ taskAt (now (file .entry)) (tasksPlace + 4 + taskSize * i) ⌝ }
 {
     let at = TASKS_PLACE + 4 + TASK_SIZE * i;

@@ -11,7 +11,7 @@ use Rattle.model.specs.Model.{Run, Job, mostTasks, totalJobs, jobCount, jobs, j
 use Rattle.model.proofs.Jobs.{jobsBefore, before-on, before-within, job-at, existing-jobs}
 use Rattle.openfile.proofs.Leading.{leads-take}
 use Rattle.table.specs.Table.{Sized, Lent, Rows, PutRow}
-use Rattle.table.proofs.LentLaws.{lent-none, rows-none, rows-with, rows-all}
+use Rattle.table.proofs.LentLaws.{sized-as, lent-none, rows-none, rows-with, rows-all}
 use Rattle.standing.specs.WhoseRows.{OfTask, OfTasks}
 
 -- One task
@@ -110,7 +110,7 @@ module _ {l : List Task} {n H : ℕ} {t₀ : List ℕ} {m : ℕ} {t : List ℕ} 
           room = L .room;
           most = L .most;
           long = e ∙ L .long;
-          sized = record { long = e ∙ L .sized .long; few = L .sized .few };
+          sized = sized-as e (L .sized);
           total = L .total;
           place = next-place;
           rows = λ σ J. put σ (next-jobs σ J) (L .rows σ J);

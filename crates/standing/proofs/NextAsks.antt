@@ -5,13 +5,14 @@ use mathlib.Core.Path.{_≡_, refl, sym, _∙_}
 use mathlib.Core.List.{List}
 use native.Mathlib.Omega.{arith}
 use lib.ListN.{length}
-use Rattle.carrytheory.proofs.AtH.{opening-jobs, opening-count}
+use Rattle.carrytheory.proofs.AtH.{opening-jobs, opening-tasks, opening-count}
 use Rattle.model.specs.Carry.{opening}
 use Rattle.model.specs.declared.task.Task.{Task}
 use Rattle.model.specs.Model.{Run, WithinLimits}
 use Rattle.model.proofs.Jobs.{existing-few}
 use Rattle.openfile.specs.declared.head.Head.{Head}
 use Rattle.openfile.specs.Head.{Leads}
+use Rattle.openfile.proofs.Leading.{leads-same}
 use Rattle.openfile.proofs.WholeOrRefused.{tells-limits, tells-task-count}
 use Rattle.table.specs.Table.{Lent}
 use Rattle.times.specs.Times.{Listed}
@@ -27,16 +28,15 @@ module _ {b : List ℕ} {h : Head} {l : List Task} {H′ m : ℕ} {ρ : Run} (C 
   stands-limits =
       let W = tells-limits (C .tells) in
       record {
-        setting = record { cores = W .setting .cores; horizon = (omega (arith, W .setting .horizon, C .reached .longer), C .reached .most) };
+        setting = record { cores = W .setting .cores; horizon = (omega (arith, W .setting .horizon, C .allowed .longer), C .allowed .most) };
         task-count = W .task-count;
         tasks = W .tasks;
-        job-count = C .reached .few;
-        record-count = omega (arith, stands-count, C .count, existing-few ρ H′, C .reached .few);
+        job-count = C .allowed .few;
+        record-count = omega (arith, stands-count, C .count, existing-few ρ H′, C .allowed .few);
       }
 
   stands-tasks : Leads (opening ρ H′) l
-  unfolding opening
-  stands-tasks = record { room = C .tasks .room; each = C .tasks .each }
+  stands-tasks = leads-same (opening-tasks ρ H′) (C .tasks)
 
   pub stands-jobs : OfTasks l (h .tasks) H′ m (opening ρ H′)
   unfolding opening

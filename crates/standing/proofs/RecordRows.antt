@@ -16,7 +16,7 @@ use Rattle.openfile.specs.declared.head.Head.{Head}
 use Rattle.openfile.specs.Head.{Tells}
 use Rattle.openfile.proofs.WholeOrRefused.{tells-limits}
 use Rattle.table.specs.Table.{Lent, Rows, PutRow, Sized, recorded}
-use Rattle.table.proofs.LentLaws.{number-of, rows-none, rows-with}
+use Rattle.table.proofs.LentLaws.{sized-as, number-of, rows-none, rows-with}
 use Rattle.standing.specs.Carriable.{Carriable}
 use Rattle.standing.proofs.OfJob.{found-record}
 
@@ -37,7 +37,7 @@ opening-none ρ H′ C L =
     record {
       within = omega arith;
       long = refl;
-      sized = record { long = L .long; few = L .few };
+      sized = L .sized;
       run = ρ;
       to = H′;
       carriable = C;
@@ -88,7 +88,7 @@ module _ {b : List ℕ} {h : Head} {l : List Task} {t₀ : List ℕ} {m : ℕ} {
   arrival-fits =
       let C = O .carriable in
       let x : Exists (task l i) (O .to) j = rw (told (O .run) (O .to) C (O .listed)) at (job-is (O .run) (O .to) C (O .listed) .1) in
-      omega (arith, C .reached .most)
+      omega (arith, C .allowed .most)
 
   pub place-fits : {p : ℕ} → ((ρ : Run) → Tells b h ρ → Jobs ρ → task (ρ .tasks) i ≡ task l i → some p ≡ placeOf ρ (i, j)) → p < mostRecords
   place-fits f =
@@ -102,7 +102,7 @@ module _ {b : List ℕ} {h : Head} {l : List Task} {t₀ : List ℕ} {m : ℕ} {
       record {
         within = omega arith;
         long = P .long ∙ O .long;
-        sized = record { long = P .long ∙ O .sized .long; few = O .sized .few };
+        sized = sized-as (P .long) (O .sized);
         run = O .run;
         to = O .to;
         carriable = O .carriable;

@@ -16,7 +16,7 @@ use Rattle.carrytheory.proofs.ByStarts.{carried-by-starts}
 use Rattle.carrytheory.proofs.Begin.{Going, going-done}
 use Rattle.carrytheory.proofs.AtH.{opening-jobs}
 use Rattle.carrytheory.proofs.CarryEnds.{going₀}
-use Rattle.table.specs.Table.{Lent, PutRow, columns}
+use Rattle.table.specs.Table.{Sized, Lent, PutRow, columns}
 use Rattle.table.proofs.LentLaws.{number-of}
 use Rattle.starts.specs.Opened.{Opened}
 use Rattle.starts.specs.Choice.{Chosen}
@@ -48,7 +48,7 @@ module _ {ρ : Run} {H′ N H : ℕ} {t : List ℕ} {n : ℕ} (X : Opened ρ H�
   going : Going σ H mostTime (waiting σ) H σ
   going =
       rw (X .horizon)
-      (going₀ ρ (X .limits) H′ (X .obeys) (rw (X .horizon) at (X .longer)) (X .most) (X .few))
+      (going₀ ρ (X .limits) H′ (X .obeys) (X .allowed .longer) (X .allowed .most) (X .allowed .few))
 
   cores-then : N ≡ σ .setting .cores
   unfolding opening
@@ -89,11 +89,11 @@ module _ {σ₀ : Run} {H N : ℕ} {t : List ℕ} {n : ℕ} {T : Taken} {v left 
     time = number-of (R .table) 9 k (9 * n + k) (omega arith) (C .range) refl
 
     -- the job's row is in the table, and its end is a number of four bytes
-    pub in-table : (k < n) × (n ≤ mostRecords) × (length t ≡ columns * n) × (u + getD t (9 * n + k) 0 < 2 ^ 32)
+    pub in-table : (k < n) × Sized t n × (u + getD t (9 * n + k) 0 < 2 ^ 32)
     in-table =
         let l = R .going .able .most (rec (R .run) k .task) in
         let f = turn-fits (R .going) (R .table) (R .jobs) (R .cores) (R .ends) (R .least) C in
-        (C .range, R .table .few, R .table .long, omega (arith, time))
+        (C .range, R .table .sized, omega (arith, time))
 
     pub core-free : (d : ℕ) × (1 ≤ d) × (d ≤ N) × (getD (T .ends) d 0 ≤ u)
     core-free = let F = R .least in (F .core, F .is-core .0, omega (arith, F .is-core .1), omega (arith, F .here, C .at))

@@ -13,7 +13,7 @@ use Rattle.carrytheory.proofs.Depends.{same-due, same-ready}
 use Rattle.carrytheory.proofs.StartChanges.{as-many, here, elsewhere, job-stays, release-stays, rank-stays}
 use Rattle.table.specs.Table.{Lent, PutRow, columns, numberAt, row, earliest, latest}
 use Rattle.table.proofs.ColumnsApart.{same-column, same-row}
-use Rattle.table.proofs.LentLaws.{column-of}
+use Rattle.table.proofs.LentLaws.{sized-as, column-of}
 
 -- The columns that are read
 -- -------------------------
@@ -120,8 +120,7 @@ module _ {σ : Run} {t t′ : List ℕ} {n u k c e : ℕ} (L : Lent columns σ t
       record {
         limits = limits-stay σ u k c is-record (L .limits);
         count = L .count ∙ sym (as-many σ u k c (taskOf σ k .greatest));
-        few = L .few;
-        long = P .long ∙ L .long;
+        sized = sized-as (P .long) (L .sized);
         number = λ j a h l. go j a h l (ℕ-discrete a k);
       }
     where

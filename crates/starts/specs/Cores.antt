@@ -2,14 +2,15 @@
 use Prim.Native.Nat.{ℕ, _+_, _≤_, _<_}
 use mathlib.Core.Path.{_≡_}
 use mathlib.Core.Logic.{_⊎_}
-use mathlib.Core.List.{List}
+use mathlib.Core.List.{List, [], _∷_}
 use lib.ListN.{length, getD, set}
+use Rattle.base.specs.Columns.{Beside}
 use Rattle.model.specs.Model.{mostCores}
 use Rattle.starts.specs.declared.cores.Taken.{Taken}
 
 -- ends, and the cores on which: none above the most
 pub record Ran (es cs : List ℕ) : Type 0 where
-  pub long : length es ≡ length cs
+  pub beside : Beside cs (es ∷ [])
   pub cores : (k : ℕ) → getD cs k 0 ≤ mostCores
 
 -- of the first n jobs one ends at e on core c, or e is 0: cores, ends

@@ -1,9 +1,9 @@
--- The table of what stands at H of a run that keeps the limits and obeys the rules, and is to be carried to H', at which it has no more
--- jobs than there may be.
-use Prim.Native.Nat.{ℕ, _≤_}
+-- The table of what stands at H of a run that keeps the limits and obeys the rules, and may be carried to H'.
+use Prim.Native.Nat.{ℕ}
 use mathlib.Core.Path.{_≡_}
 use mathlib.Core.List.{List}
-use Rattle.model.specs.Model.{Run, WithinLimits, mostHorizon, mostJobs, totalJobs}
+use Rattle.carrytheory.specs.Allowed.{Allowed}
+use Rattle.model.specs.Model.{Run, WithinLimits}
 use Rattle.model.specs.Rules.{Obeys}
 use Rattle.model.specs.Carry.{opening}
 use Rattle.table.specs.Table.{Lent, columns}
@@ -13,7 +13,5 @@ pub record Opened (ρ : Run) (H′ N H : ℕ) (t : List ℕ) (n : ℕ) : Type 0 
   pub obeys : Obeys ρ
   pub cores : N ≡ ρ .setting .cores
   pub horizon : H ≡ ρ .setting .horizon
-  pub longer : H ≤ H′
-  pub most : H′ ≤ mostHorizon
-  pub few : totalJobs (ρ .tasks) H′ ≤ mostJobs
+  pub allowed : Allowed ρ H′
   pub table : Lent columns (opening ρ H′) t n

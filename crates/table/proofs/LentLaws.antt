@@ -12,8 +12,12 @@ use lib.Seq.{length-take-le, getD-take, getD-drop, ext-getD}
 use Rattle.base.specs.Fill.{Fills}
 use Rattle.base.proofs.Find.{here-or-on}
 use Rattle.model.specs.Model.{Run, WithinLimits}
-use Rattle.table.specs.Table.{columns, row, numberAt, Lent, Loads, Rows, PutRow, ForEach}
+use Rattle.table.specs.Table.{columns, row, numberAt, Sized, Lent, Loads, Rows, PutRow, ForEach}
 use Rattle.table.proofs.ColumnsApart.{column-within, same-column, same-row, at}
+
+-- a table as long as another
+pub sized-as : {t t′ : List ℕ} {n : ℕ} → length t′ ≡ length t → Sized t n → Sized t′ n
+sized-as e S = record { long = e ∙ S .long; few = S .few }
 
 -- What is lent
 -- ------------
@@ -26,13 +30,13 @@ module _ {m : ℕ} {ρ : Run} {t : List ℕ} {n : ℕ} (L : Lent m ρ t n) where
   pub column-of : (j : ℕ) → j < m → j < columns → ForEach ρ (take n (drop (j * n) t)) (numberAt ρ j)
   column-of j h l =
       record {
-        long = length-take-le n (drop (j * n) t) (simp length-drop (omega (arith, column-within columns j n l, L .long))) ∙ L .count;
+        long = length-take-le n (drop (j * n) t) (simp length-drop (omega (arith, column-within columns j n l, L .sized .long))) ∙ L .count;
         each = λ k i. let r : k < n = omega (arith, L .count) in getD-take n (drop (j * n) t) k 0 r ∙ getD-drop (j * n) t k 0 ∙ L .number j k h r;
       }
 
   pub lent-fewer : (j : ℕ) → j ≤ m → Lent j ρ t n
   lent-fewer j h =
-      record { limits = L .limits; count = L .count; few = L .few; long = L .long; number = λ i k l. L .number i k (omega arith) }
+      record { limits = L .limits; count = L .count; sized = L .sized; number = λ i k l. L .number i k (omega arith) }
 
   -- a column more
   pub lent-on : {t′ : List ℕ} → Fills t (m * n) n (numberAt ρ m) t′ → Lent (m + 1) ρ t′ n
@@ -40,8 +44,7 @@ module _ {m : ℕ} {ρ : Run} {t : List ℕ} {n : ℕ} (L : Lent m ρ t n) where
       record {
         limits = L .limits;
         count = L .count;
-        few = L .few;
-        long = F .long ∙ L .long;
+        sized = sized-as (F .long) (L .sized);
         number = λ j k h l. go j k l (here-or-on j m (omega arith));
       }
     where
@@ -55,7 +58,7 @@ module _ {m : ℕ} {ρ : Run} {t : List ℕ} {n : ℕ} (L : Lent m ρ t n) where
 -- no column yet
 pub lent-none : {ρ : Run} {t : List ℕ} {n : ℕ} → WithinLimits ρ → n ≡ length (ρ .records) → length t ≡ columns * n → Lent 0 ρ t n
 lent-none W e l =
-    record { limits = W; count = e; few = omega (arith, W .record-count); long = l; number = λ j k h. absurd (omega arith) }
+    record { limits = W; count = e; sized = record { long = l; few = omega (arith, W .record-count) }; number = λ j k h. absurd (omega arith) }
 
 -- the same from the front on, with what stands past the columns
 pub loads-none : {ρ : Run} {t : List ℕ} {n : ℕ} → Lent 0 ρ t n → Loads 0 ρ n t t
@@ -86,8 +89,7 @@ module _ {m M r : ℕ} {ρ : Run} {t : List ℕ} {n : ℕ} (R : Rows m M r ρ t 
           record {
             limits = L .limits;
             count = L .count;
-            few = L .few;
-            long = P .long ∙ L .long;
+            sized = sized-as (P .long) (L .sized);
             number = λ j k l i.
                 P .kept (j * n + k) (λ a b c. let q = same-column n j k (m + a) r i h c in omega arith) ∙ L .number j k l i;
           }
@@ -114,13 +116,13 @@ module _ {m M r : ℕ} {ρ : Run} {t : List ℕ} {n : ℕ} (R : Rows m M r ρ t 
 pub rows-all : {m M : ℕ} {ρ : Run} {t : List ℕ} {n : ℕ} → Rows m M n ρ t n → Lent M ρ t n
 rows-all R =
     let L = R .lent in
-    record { limits = L .limits; count = L .count; few = L .few; long = L .long; number = R .rows }
+    record { limits = L .limits; count = L .count; sized = L .sized; number = R .rows }
 
 -- Nothing else
 -- ------------
 module _ {m : ℕ} {ρ : Run} {n : ℕ} {t t′ t″ : List ℕ} where
   pub loads-same : Loads m ρ n t t′ → Loads m ρ n t t″ → t′ ≡ t″
-  loads-same F G = ext-getD 0 t′ t″ (F .lent .long ∙ sym (G .lent .long)) (λ p h. go p (decLt p (m * n)))
+  loads-same F G = ext-getD 0 t′ t″ (F .lent .sized .long ∙ sym (G .lent .sized .long)) (λ p h. go p (decLt p (m * n)))
     where
       go : (p : ℕ) → Dec (p < m * n) → getD t′ p 0 ≡ getD t″ p 0
       go p (yes l) =
@@ -132,7 +134,7 @@ module _ {m : ℕ} {ρ : Run} {n : ℕ} {t t′ t″ : List ℕ} where
 pub lent-same : {ρ : Run} {n : ℕ} {t t′ : List ℕ} → Lent columns ρ t n → Lent columns ρ t′ n → t ≡ t′
 lent-same {ρ} {n} {t} {t′} L K =
     loads-same {t = t} (record { lent = L; kept = λ p h. refl })
-    (record { lent = K; kept = λ p h. past t′ p (omega (arith, K .long)) ∙ sym (past t p (omega (arith, L .long))) })
+    (record { lent = K; kept = λ p h. past t′ p (omega (arith, K .sized .long)) ∙ sym (past t p (omega (arith, L .sized .long))) })
   where
     past : (l : List ℕ) (p : ℕ) → length l ≤ p → getD l p 0 ≡ 0
     past l p h = List·getD-eq-default l 0 h

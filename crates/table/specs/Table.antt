@@ -53,8 +53,7 @@ pub record Sized (t : List ℕ) (n : ℕ) : Type 0 where
 pub record Lent (m : ℕ) (ρ : Run) (t : List ℕ) (n : ℕ) : Type 0 where
   pub limits : WithinLimits ρ
   pub count : n ≡ length (ρ .records)
-  pub few : n ≤ mostRecords
-  pub long : length t ≡ columns * n
+  pub sized : Sized t n
   pub number : (j k : ℕ) → j < m → k < n → getD t (j * n + k) 0 ≡ numberAt ρ j k
 
 -- The same after columns were written from the front on: those past them keep their values.

@@ -1,4 +1,3 @@
 pub mod Plan
 pub mod StoredInTurn
-pub mod PassedOrNot
 pub mod Once

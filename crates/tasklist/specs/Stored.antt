@@ -1,5 +1,5 @@
 -- What decoding into a lent list answers and stores.
-use Prim.Native.Nat.{ℕ, _+_, _-_, _*_, _≤_}
+use Prim.Native.Nat.{ℕ, _≤_}
 use mathlib.Core.Path.{_≡_}
 use mathlib.Core.Bool.{Bool, true, false}
 use mathlib.Core.List.{List, _++_}
@@ -7,7 +7,8 @@ use mathlib.Core.Option.{Option, none, some}
 use lib.Dec.{leb}
 use lib.ListN.{length, drop}
 use Rattle.model.specs.declared.task.Task.{Task}
-use Rattle.model.specs.File.{Read, refused, whole, read, tasksIn, tasksPlace, taskSize, decoded}
+use Rattle.model.specs.File.{Read, refused, whole, read, tasksIn, decoded}
+use Rattle.runfile.specs.TasksThere.{TasksThere}
 use Rattle.tasklist.specs.declared.Stored.{Stored}
 
 -- the refusal that an answer tells: its number and its task, and number 0 where nothing is refused
@@ -37,7 +38,7 @@ Rooms n room r = r ≡ roomIf (leb n room) n
 
 -- a file has the bytes of n tasks, and a list with room for m has room for them
 pub record HasTasks (b : List ℕ) (n m : ℕ) : Type 0 where
-  pub there : taskSize * n ≤ length b - (tasksPlace + 4)
+  pub there : TasksThere b n
   pub room : n ≤ m
 
 -- the first n tasks of a file stored in a list: the entries past them keep their values
@@ -50,7 +51,7 @@ pub record Plans (b : List ℕ) (list : List Task) (r : Stored) : Type 0 where
   pub stored : tasksIn b (r .count) ++ drop (r .count) list ≡ decoded b list .list
   pub count : r .count ≡ countOf (read b) (length list)
   pub room : r .count ≤ length list
-  pub there : taskSize * r .count ≤ length b - (tasksPlace + 4)
+  pub there : TasksThere b (r .count)
 
 -- a list before and after, and the answer
 pub record Stores (b : List ℕ) (before after : List Task) (r : Stored) : Type 0 where

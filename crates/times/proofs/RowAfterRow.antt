@@ -8,8 +8,8 @@ use Rattle.model.specs.declared.task.Task.{Task}
 use Rattle.model.specs.Model.{Run, rec, taskOf, task, noTask}
 use Rattle.model.specs.Rules.{Jobs}
 use Rattle.openfile.specs.Head.{Leads}
-use Rattle.table.specs.Table.{Lent, Loads, Rows, columns, recorded}
-use Rattle.table.proofs.LentLaws.{lent-fewer, number-of, rows-none, rows-all}
+use Rattle.table.specs.Table.{Sized, Lent, Loads, Rows, recorded}
+use Rattle.table.proofs.LentLaws.{sized-as, lent-fewer, number-of, rows-none, rows-all}
 use Rattle.times.specs.declared.Stage.{Stage}
 use Rattle.times.specs.Times.{begins, upTo, KeptFrom, Listed}
 use Rattle.times.proofs.TimesOfRecord.{task-below, past}
@@ -20,7 +20,7 @@ pub record Filling (s : Stage) (list : List Task) (t₀ : List ℕ) (n : ℕ) (t
   pub listed : Listed run list (begins s) t₀ n
   pub within : k ≤ n
   pub long : length t ≡ length t₀
-  pub sized : length t ≡ columns * n
+  pub sized : Sized t n
   pub rows : (σ : Run) → Listed σ list (begins s) t₀ n → Rows (begins s) (upTo s) k σ t n
   pub kept : KeptFrom (upTo s * n) t₀ t
 
@@ -31,7 +31,7 @@ filling-none s σ I =
       listed = I;
       within = omega arith;
       long = refl;
-      sized = I .table .long;
+      sized = I .table .sized;
       rows = λ ρ K. rows-none (K .table) (upTo s);
       kept = record { kept = λ p h. refl };
     }
@@ -69,7 +69,7 @@ module _ {s : Stage} {list : List Task} {t₀ : List ℕ} {n : ℕ} {t : List �
         listed = F .listed;
         within = omega arith;
         long = e ∙ F .long;
-        sized = e ∙ F .sized;
+        sized = sized-as e (F .sized);
         rows = λ σ I. on σ I .0;
         kept = record { kept = λ p h. on (F .run) (F .listed) .1 .kept p h ∙ F .kept .kept p h };
       }

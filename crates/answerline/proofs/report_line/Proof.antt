@@ -10,12 +10,6 @@ use Rattle.text.specs.Lined.{lined}
 use Rattle.answerline.proofs.report_line.Statement.{statement}
 use Rattle.answerline.proofs.report_line.Tie as tie
 
-check-file-requires : tie.Need-check-file-requires
-check-file-requires c κs = search needs
-
-line-of-requires : tie.Need-line-of-requires
-line-of-requires c κs = search needs
-
 returns : tie.Need-returns
 unfolding report
 returns c =
@@ -24,4 +18,4 @@ returns c =
     (c .line-of .ensures .0 ∙ ap (λ f. lined (line (numbers f))) five, c .line-of .ensures .1)
 
 pub report-line-spec : {M : Type 1} → statement M
-report-line-spec = tie.close (tie.spec check-file-requires line-of-requires returns)
+report-line-spec = tie.close (tie.spec (λ c κs. search needs) (λ c κs. search needs) returns)

@@ -5,12 +5,6 @@ use Rattle.reader.proofs.SectionStarts.{starts-refused, starts-told}
 use Rattle.reader.proofs.starts_of.Statement.{statement}
 use Rattle.reader.proofs.starts_of.Tie as tie
 
-open-file-requires : tie.Need-open-file-requires
-open-file-requires c κs = search needs
-
-enum-known-opened : tie.Need-enum-known-opened
-enum-known-opened c = search needs
-
 enum-told : tie.Need-enum-told
 enum-told c = search needs
 
@@ -22,4 +16,4 @@ returns-2 c = starts-told (whole-tells _ _ (sym (c .before .opened .given .1) �
 
 pub starts-of-spec : {M : Type 1} → statement M
 starts-of-spec =
-    tie.close (tie.spec open-file-requires enum-known-opened enum-told returns returns-2)
+    tie.close (tie.spec (λ c κs. search needs) (λ c. search needs) enum-told returns returns-2)

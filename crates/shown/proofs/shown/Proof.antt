@@ -6,32 +6,8 @@ use Rattle.shown.proofs.ShownFrom.{shown-at}
 use Rattle.shown.proofs.shown.Statement.{statement}
 use Rattle.shown.proofs.shown.Tie as tie
 
-starts-of-requires : tie.Need-starts-of-requires
-starts-of-requires c κs = search needs
-
-starts-of-requires-2 : tie.Need-starts-of-requires-2
-starts-of-requires-2 c κs = search needs
-
-place-of-requires : tie.Need-place-of-requires
-place-of-requires c κs = search needs
-
-enum-known-k : tie.Need-enum-known-k
-enum-known-k c = search needs
-
-part-in-requires : tie.Need-part-in-requires
-part-in-requires c κs = search needs
-
-enum-known-k-2 : tie.Need-enum-known-k-2
-enum-known-k-2 c = search needs
-
-part-in-requires-2 : tie.Need-part-in-requires-2
-part-in-requires-2 c κs = search needs
-
 enum-told : tie.Need-enum-told
 enum-told c = search needs
-
-slice-aggregate-result : tie.Need-slice-aggregate-result
-slice-aggregate-result c = search needs
 
 returns : tie.Need-returns
 returns c = shown-at _ _ _ _ (c .before .before .k .given .1) (c .before .before .before .before .place-of .ensures) (is-record _ (c .before .before .before .before .before .before .starts-of .ensures) (c .part-in .ensures))
@@ -46,15 +22,15 @@ pub shown-spec : {M : Type 1} → statement M
 shown-spec =
     tie.close
     (tie.spec
-    starts-of-requires
-    starts-of-requires-2
-    place-of-requires
-    enum-known-k
-    part-in-requires
-    enum-known-k-2
-    part-in-requires-2
+    (λ c κs. search needs)
+    (λ c κs. search needs)
+    (λ c κs. search needs)
+    (λ c. search needs)
+    (λ c κs. search needs)
+    (λ c. search needs)
+    (λ c κs. search needs)
     enum-told
-    slice-aggregate-result
+    (λ c. search needs)
     returns
     returns-2
     returns-3)

@@ -42,7 +42,7 @@ free-cores-requires c κs =
     let X = c .before .before .before .before .pre .2 in
     let end = c .before .column .ensures in
     let core = c .column2 .ensures in
-    (omega (arith, X .limits .setting .cores), omega (arith, X .limits .setting .cores), record { long = end .1 ∙ sym (core .1); cores = on-core X (end .0) (core .0) (core .1) })
+    (omega (arith, X .limits .setting .cores), omega (arith, X .limits .setting .cores), record { beside = (end .1 ∙ sym (core .1), tt); cores = on-core X (end .0) (core .0) (core .1) })
 
 loop-holds : tie.Need-loop-holds Inv-loop μ-loop
 loop-holds c =
@@ -79,7 +79,7 @@ take-core-requires : tie.Need-take-core-requires Inv-loop μ-loop
 take-core-requires c κs = let R = reached (c .before) in (some-cores R .0, some-cores R .1, core-free R (found (c .before)))
 
 put-row-requires : tie.Need-put-row-requires Inv-loop μ-loop
-put-row-requires c κs = let f = in-table (reached (c .before .before .before)) (found (c .before .before .before)) in (record { long = f .2; few = omega arith }, f .0, omega arith, omega arith)
+put-row-requires c κs = let f = in-table (reached (c .before .before .before)) (found (c .before .before .before)) in (f .1, f .0, omega arith, omega arith)
 
 loop-again : tie.Need-loop-again Inv-loop μ-loop
 loop-again c =

@@ -1,14 +1,14 @@
 -- `tasklist::fill_tasks` meets its contract: a walk of its MIR, with a loop and a call in it. The borrow of the list is opened once, before the loop, and closed once, after it.
 -- Between the two the row of tasks is the function's own: at the loop's head it is the list with its first i entries from the file. In a turn `task_at` is called, which is covered; all that is known of it is that it meets its contract.
 -- Assumes nothing.
-use Rattle.reader.proofs.Walk.{_≡_, refl, sym, ap, subst, ℕ, zero, suc, _+_, _*_, _<_, _≤_, _^_, lt-irrefl, lt-suc-self, add-one, arith, Bool, List, [], _∷_, length, set, Nat·lt-wfRel, ltb, lt→ltb, ltb→lt, lit<, URA, fullShare, Ty, named, imm, mut, w8, w64, tyInt, tyUnit, tyBool, tyPtr, tyRef, loop, Val, vunit, vbool, vint, vptr, SProp, ent, sep, ex, guard, id⊢, via, exI, exE, guardI, guardE, snd∗, Lft, GName, Share, Fml, ftrue, fat, froom, fdies, flft, fobs, fauth, fbor, fobor, Memory, Routine, Heap, Out, Env, afterSeq, afterBlock, afterTurn, Calls, Loops, Wp, atReturn, WpFn, Tables, Atoms, sem, Fun, fact, Lfts, givenOf, tables, tablesOf, Given, Item, ‵, raw, _⊛_, some, later, ⋆, anyQ, atRet, _$_, _∵_, !, qed, by, move, keep, drop, use1, use2, split, join, pick, rewrite, fsplit, fjoin, feqI, suffices, frame, await, done, whole, sub, look-in, look, store, store-raw, init, forget, stop, hop, fld, from, load, lit, unit-lit, of-opd, bin, and-then, no-more, assigns, assigns-last, land, stays, leaves-loop, exec, returns, enter, alloc1, alloc0, params1, pass1, pass0, free1, free0, loop-rule, fmOf, WpFn-mono, yes, owns, pureI, Is, shows, pointee, uint-vals, uint-tells, uint-makes, RefT, sliceTy, sliceVal, MutSlice, ShrSlice, heres, Room, slice-vals, mut-slice-tells, shr-slice-tells, shr-slice-copy, at-slice, codedHoleys, Held, row, place-is, elem-out, elem-put, opens-slice, closes-slice, plain, u8, usize, nothing, owned, peeks, heard, Contract, Triple, calls-at, ensured, lasts, Vals, onEntry, Meets, tripleOf, entered, cited, says, needs, Stays, stay-slice, stay-none-slice, stay-none, walkOf, Walks, ends-at, walked, goes-slice, goes-none-slice, goes-none, walk-meets}
-use Prim.Native.Nat.{_-_}
+use Rattle.reader.proofs.Walk.{_≡_, refl, sym, ap, subst, ℕ, zero, suc, _+_, _*_, _<_, _≤_, _^_, lt-irrefl, lt-suc-self, add-one, arith, Bool, List, [], _∷_, length, set, Nat·lt-wfRel, lit<, URA, fullShare, Ty, named, imm, mut, w8, w64, tyInt, tyUnit, tyBool, tyPtr, tyRef, loop, Val, vunit, vbool, vint, vptr, SProp, ent, sep, ex, guard, id⊢, via, exI, exE, guardI, guardE, snd∗, Lft, GName, Share, Fml, ftrue, fat, froom, fdies, flft, fobs, fauth, fbor, fobor, Memory, Routine, Heap, Out, Env, afterSeq, afterBlock, afterTurn, Calls, Loops, Wp, atReturn, WpFn, Tables, Atoms, sem, Fun, fact, Lfts, givenOf, tables, tablesOf, Given, Item, ‵, raw, _⊛_, some, later, ⋆, anyQ, atRet, _$_, _∵_, !, qed, by, move, keep, drop, use1, use2, split, join, pick, rewrite, fsplit, fjoin, feqI, suffices, frame, await, done, whole, sub, look-in, look, store, store-raw, init, forget, stop, hop, fld, from, load, lit, unit-lit, of-opd, bin, and-then, no-more, assigns, assigns-last, land, stays, leaves-loop, exec, returns, enter, alloc1, alloc0, params1, pass1, pass0, free1, free0, loop-rule, fmOf, WpFn-mono, yes, owns, pureI, Is, shows, pointee, uint-vals, uint-tells, uint-makes, RefT, sliceTy, sliceVal, MutSlice, ShrSlice, heres, Room, slice-vals, mut-slice-tells, shr-slice-tells, shr-slice-copy, at-slice, codedHoleys, Held, row, place-is, elem-out, elem-put, opens-slice, closes-slice, plain, u8, usize, nothing, owned, peeks, heard, Contract, Triple, calls-at, ensured, lasts, Vals, onEntry, Meets, tripleOf, entered, cited, says, needs, Stays, stay-slice, stay-none-slice, stay-none, walkOf, Walks, ends-at, walked, goes-slice, goes-none-slice, goes-none, walk-meets}
 use denote.Struct.Laws as LL
 use Rattle.model.specs.Model.{noTask}
 use Rattle.model.specs.File.{taskAt, tasksPlace, taskSize}
-use Rattle.tasklist.proofs.PassedOrNot.{holds, fails}
+use Rattle.base.proofs.Test.{says-ltb, says-true, says-false}
 use Rattle.tasklist.proofs.StoredInTurn.{stored, length-stored, stored-on}
 use Rattle.model.specs.declared.task.Task.{Task}
+use Rattle.runfile.specs.TasksThere.{TasksThere}
 use Rattle.tasklist.specs.Stored.{HasTasks}
 use Rattle.model.proofs.task.Task as T
 use Rattle.model.proofs.task.Task.Laws as T′
@@ -85,7 +85,7 @@ module _ {M : Type 1} (𝓤 : URA M) (H : Heap 𝓤) (A : Atoms 𝓤) (W : Given
   abbrev to : ℕ → TaskIn 𝓤 H A mem run .Ghost
   to i = (((κ, tt), (q, tt), tt, (fl, (i, tt)), passed i), tt)
 
-  asked : (i : ℕ) → tasksPlace + 4 + taskSize * i + taskSize ≤ length (fl .now) → i < 2 ^ 64 → ent 𝓤 (sep 𝓤 (A .lft κ q) (sem 𝓤 H A Shr)) (TaskIn 𝓤 H A mem run .pre (to i))
+  asked : (i : ℕ) → TasksThere (fl .now) (i + 1) → i < 2 ^ 64 → ent 𝓤 (sep 𝓤 (A .lft κ q) (sem 𝓤 H A Shr)) (TaskIn 𝓤 H A mem run .pre (to i))
   asked i there fits =
       qed W (‵ (flft κ q) ∷ ‵ Shr ∷ []) ∵ says ! there $ nothing ! $ move ! (1 ∷ 0 ∷ []) $ join ! $ frame ! $
       nothing ! $ owned ! usize (Is usize) (uint-makes 𝓤 H A W w64) i _ (refl, fits) $ fjoin ! $ move ! (1 ∷ 0 ∷ []) $ fjoin ! $ done !
@@ -94,7 +94,7 @@ module _ {M : Type 1} (𝓤 : URA M) (H : Heap 𝓤) (A : Atoms 𝓤) (W : Given
   said : (i : ℕ) (r : Task) → ent 𝓤 (ensured 𝓤 H A callee.ended (callee.clauses 𝓤 H A mem run) (κ, tt) (fl, (i, tt)) tt r) (fact 𝓤 (r ≡ elem i))
   said i r = exE 𝓤 _ (λ ws. snd∗ 𝓤 (sem 𝓤 H A (lasts callee.ended (κ, tt) (fl, (i, tt)) ws)) (fact 𝓤 (r ≡ elem i)))
 
-  module _ (𝓣 : Tables 𝓤 H) (known : Triple 𝓤 (𝓣 .C #runfile·task-at) (TaskIn 𝓤 H A mem run)) (room : Room T.the-row (length xs)) (n-fits : n < 2 ^ 64) (within : n ≤ length xs) (has : taskSize * n ≤ length (fl .now) - (tasksPlace + 4)) (l₀ l₁ l₂ l₃ l₄ l₅ l₆ l₇ l₈ : ℕ) where
+  module _ (𝓣 : Tables 𝓤 H) (known : Triple 𝓤 (𝓣 .C #runfile·task-at) (TaskIn 𝓤 H A mem run)) (room : Room T.the-row (length xs)) (n-fits : n < 2 ^ 64) (within : n ≤ length xs) (has : TasksThere (fl .now) n) (l₀ l₁ l₂ l₃ l₄ l₅ l₆ l₇ l₈ : ℕ) where
     abbrev C : Calls 𝓤 H
     C = 𝓣 .C
 
@@ -141,12 +141,12 @@ module _ {M : Type 1} (𝓤 : URA M) (H : Heap 𝓤) (A : Atoms 𝓤) (W : Given
         let mul-fits : i * 20 < 2 ^ 64 = omega arith in
         let i-fits : i < 2 ^ 64 = omega arith in
         let next-fits : i + 1 < 2 ^ 64 = omega arith in
-        let there : tasksPlace + 4 + taskSize * i + taskSize ≤ length (fl .now) = omega arith in
+        let there : TasksThere (fl .now) (i + 1) = omega arith in
         let here : i < length xs = omega arith in
         let inside : i < length (cur i) = subst (λ (m : ℕ). i < m) (sym (length-stored (fl .now) xs i (omega arith))) here in
         qed W (At i) ∵ exec ! C Λ En mir.turn-1 (anyQ (afterTurn 𝓤 H X Left)) $
         assigns ! (bin ! (load ! (from ! (stop !)) (look ! 1 refl)) (load ! (from ! (stop !)) (look ! 8 refl)) tt) (from ! (stop !)) (init ! 2 refl (tt, tt)) $
-        rewrite ! 2 (λ (t : Bool). ‵ (fat fullShare tyBool l₅ 0 (vbool t))) (holds (ltb i n) (lt→ltb i n small)) refl $
+        rewrite ! 2 (λ (t : Bool). ‵ (fat fullShare tyBool l₅ 0 (vbool t))) (says-true (says-ltb i n) small) refl $
         stays ! (load ! (from ! (stop !)) (look ! 2 refl)) $
         move ! (14 ∷ []) $ use1 W (‵ Shr ⊛ ‵ Shr) (shr-slice-copy 𝓤 H A W (named 0) κ u8 .twice fl (fv ∷ [])) $ split ! $ move ! (15 ∷ 0 ∷ []) $ use2 W (raw (TaskIn 𝓤 H A mem run .pre (to i))) (asked i there i-fits) $
         -- [what the callee asks; what file owns; the row; _4; _5; _6; _7; _8; _1; _2; _3; _0; …]
@@ -176,7 +176,7 @@ module _ {M : Type 1} (𝓤 : URA M) (H : Heap 𝓤) (A : Atoms 𝓤) (W : Given
     ends X =
         qed W (At n) ∵ exec ! C Λ En mir.turn-1 (anyQ (afterTurn 𝓤 H X Left)) $
         assigns ! (bin ! (load ! (from ! (stop !)) (look ! 1 refl)) (load ! (from ! (stop !)) (look ! 8 refl)) tt) (from ! (stop !)) (init ! 2 refl (tt, tt)) $
-        rewrite ! 2 (λ (t : Bool). ‵ (fat fullShare tyBool l₅ 0 (vbool t))) (fails (ltb n n) (λ a. lt-irrefl n (ltb→lt n n a))) refl $
+        rewrite ! 2 (λ (t : Bool). ‵ (fat fullShare tyBool l₅ 0 (vbool t))) (says-false (says-ltb n n) (lt-irrefl n)) refl $
         leaves-loop ! (load ! (from ! (stop !)) (look ! 2 refl)) $ exec ! C Λ En mir.t-3 (atRet En Post) $
         assigns ! (of-opd ! (unit-lit !)) (from ! (stop !)) (init ! 9 refl (tt, tt)) $
         move ! (0 ∷ 10 ∷ 11 ∷ 12 ∷ []) $ closes-slice ! tt T.the-row xs (cur n) (length-stored (fl .now) xs n within) b o $

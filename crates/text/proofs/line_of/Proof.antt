@@ -6,15 +6,6 @@ use Rattle.text.proofs.Lined.{wrote-lined, lined-within}
 use Rattle.text.proofs.line_of.Statement.{statement}
 use Rattle.text.proofs.line_of.Tie as tie
 
-numbers-of-requires : tie.Need-numbers-of-requires
-numbers-of-requires c κs = search needs
-
-slice-aggregate-put-line : tie.Need-slice-aggregate-put-line
-slice-aggregate-put-line c = search needs
-
-put-line-requires : tie.Need-put-line-requires
-put-line-requires c κs = search needs
-
 returns : tie.Need-returns
 returns c =
     let (long, within, text) = c .before .put-line .ensures in
@@ -23,4 +14,4 @@ returns c =
 
 pub line-of-spec : {M : Type 1} → statement M
 line-of-spec =
-    tie.close (tie.spec numbers-of-requires slice-aggregate-put-line put-line-requires returns)
+    tie.close (tie.spec (λ c κs. search needs) (λ c. search needs) (λ c κs. search needs) returns)

@@ -11,13 +11,10 @@ put-decimal-requires c κs = omega (arith, length-decimal (c .before .before .ar
 put-byte-requires : tie.Need-put-byte-requires
 put-byte-requires c κs = omega (arith, length-decimal (c .before .before .before .before .before .before .args .v))
 
-same-length : tie.Need-same-length
-same-length c = search needs
-
 returns : tie.Need-returns
 returns c =
     let l = length-decimal (c .before .before .before .before .before .before .before .before .before .args .v) in
     (wrote-more (c .before .before .before .before .before .before .put-decimal .ensures) (c .before .before .put-byte .ensures) (omega arith), omega arith)
 
 pub put-number-spec : {M : Type 1} → statement M
-put-number-spec = tie.close (tie.spec put-decimal-requires put-byte-requires same-length returns)
+put-number-spec = tie.close (tie.spec put-decimal-requires put-byte-requires (λ c. search needs) returns)

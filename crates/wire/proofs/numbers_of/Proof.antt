@@ -8,21 +8,6 @@ use Rattle.wire.proofs.numbers_of.Tie as tie
 enum-told : tie.Need-enum-told
 enum-told c = search needs
 
-enum-known-a : tie.Need-enum-known-a
-enum-known-a c = search needs
-
-enum-known-a-2 : tie.Need-enum-known-a-2
-enum-known-a-2 c = search needs
-
-enum-known-a-3 : tie.Need-enum-known-a-3
-enum-known-a-3 c = search needs
-
-enum-known-a-4 : tie.Need-enum-known-a-4
-enum-known-a-4 c = search needs
-
-enum-known-a-5 : tie.Need-enum-known-a-5
-enum-known-a-5 c = search needs
-
 returns : tie.Need-returns
 unfolding numbers
 returns c = sym (ap (λ a. numbers (fiveOf a)) (c .enum-told .given .1))
@@ -52,11 +37,11 @@ numbers-of-spec =
     tie.close
     (tie.spec
     enum-told
-    enum-known-a
-    enum-known-a-2
-    enum-known-a-3
-    enum-known-a-4
-    enum-known-a-5
+    (λ c. search needs)
+    (λ c. search needs)
+    (λ c. search needs)
+    (λ c. search needs)
+    (λ c. search needs)
     returns
     returns-2
     returns-3

@@ -7,7 +7,7 @@ use Rattle.model.specs.Rules.{Obeys}
 use Rattle.openfile.specs.Head.{Tells, Leads}
 use Rattle.openfile.proofs.Leading.{leads-front}
 use Rattle.openfile.proofs.WholeOrRefused.{tells-few}
-use Rattle.standing.specs.Carriable.{Reached}
+use Rattle.carrytheory.specs.Allowed.{Allowed}
 use Rattle.carryrun.specs.Writable.{Writable}
 use Rattle.carryrun.proofs.Handed.{few-jobs}
 use Rattle.carryfile.proofs.EachAnswer.{says-10, obeys, writable, says-11, says-5}
@@ -38,7 +38,7 @@ returns-2 c ρ T R m = says-11 T _ _ R (accepted (c .before) ρ T) m (c .before 
 
 -- a file that fits can be written
 may-write : (c : tie.Else2) → let a = c .before .before .before .before .before .before .before .before .args in (ρ : Run)
-    → Tells (now (a .file)) (a .head) ρ → Reached ρ (a .horizon) → a .m ≡ length (existing ρ (a .horizon))
+    → Tells (now (a .file)) (a .head) ρ → Allowed ρ (a .horizon) → a .m ≡ length (existing ρ (a .horizon))
     → Writable (now (a .file)) (a .head) (c .before .before .before .before .tasks-of .result) (a .horizon) (a .m) (length (now (a .output))) ρ
 may-write c ρ T R m =
     let L = leads (c .before .before .before .before) ρ T in

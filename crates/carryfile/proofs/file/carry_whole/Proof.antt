@@ -2,8 +2,8 @@ use native.Mathlib.Omega.{arith}
 use denote.Ref.{now}
 use Rattle.model.specs.Model.{Run}
 use Rattle.openfile.specs.Head.{Tells}
-use Rattle.standing.specs.Carriable.{Reached}
-use Rattle.carryfile.proofs.EachAnswer.{reached, counted, says-9, says-6}
+use Rattle.carrytheory.specs.Allowed.{Allowed}
+use Rattle.carryfile.proofs.EachAnswer.{allowed, counted, says-9, says-6}
 use borrow.Author.Needs.{needs}
 use Rattle.carryfile.proofs.file.carry_whole.Statement.{statement}
 use Rattle.carryfile.proofs.file.carry_whole.Tie as tie
@@ -18,8 +18,8 @@ returns-2 c =
 
 -- neither test refuses
 reaches : (c : tie.Else2) → let a = c .before .before .before .before .before .before .before .args in (ρ : Run)
-    → Tells (now (a .file)) (a .head) ρ → Reached ρ (a .horizon)
-reaches c ρ T = reached T _ (c .before .before .may-carry .ensures) (c .before .if1 .left) (c .before .before .before .jobs-by .ensures ρ T) (c .if2 .left)
+    → Tells (now (a .file)) (a .head) ρ → Allowed ρ (a .horizon)
+reaches c ρ T = allowed T _ (c .before .before .may-carry .ensures) (c .before .if1 .left) (c .before .before .before .jobs-by .ensures ρ T) (c .if2 .left)
 
 cast-carry-to : tie.Need-cast-carry-to
 cast-carry-to c =

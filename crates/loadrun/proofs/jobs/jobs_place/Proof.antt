@@ -6,7 +6,7 @@ use lib.ListN.{length}
 use denote.Ref.{now}
 use Rattle.model.specs.Model.{Run, mostTasks, mostJobs, jobCount}
 use Rattle.openfile.specs.Head.{Known}
-use Rattle.openfile.proofs.Leading.{known-setting, known-task-count, known-count}
+use Rattle.openfile.proofs.WholeOrRefused.{head-setting, head-task-count, head-count}
 use Rattle.table.specs.Table.{Lent, recorded}
 use Rattle.table.proofs.LentLaws.{column-of}
 use Rattle.loadrun.proofs.SameJobs.{SameTo, same-none, NextTask, next-fits, task-same, task-differs, records-left, none-left}
@@ -28,11 +28,11 @@ next : (c : tie.After-column2 Inv-loop μ-loop)
 next c ρ K L =
     let s = c .before .before .before .before in
     let i = s .before .before .loop .i in
-    let is-task : i < length (ρ .tasks) = omega (arith, known-task-count K, s .if1 .taken) in
+    let is-task : i < length (ρ .tasks) = omega (arith, head-task-count ρ (K .head), s .if1 .taken) in
     record {
       to-here = s .before .before .loop .inv .2 ρ K L;
       is-task = is-task;
-      counted = c .before .before .jobs .ensures ∙ (λ κ. jobCount (K .tasks .each i is-task κ) (known-setting K κ .horizon));
+      counted = c .before .before .jobs .ensures ∙ (λ κ. jobCount (K .tasks .each i is-task κ) (head-setting ρ (K .head) κ .horizon));
       tasks = rw (c .before .column .ensures .0) (column-of L 0 (omega arith) (omega arith));
       numbers = rw (c .column2 .ensures .0) (column-of L 1 (omega arith) (omega arith));
     }
@@ -47,7 +47,7 @@ few c =
 within : (c : tie.Then1 Inv-loop μ-loop) → c .before .before .loop .i < mostTasks
 within c =
     let (ρ, K, L) = c .before .before .before .before .before .before .pre in
-    omega (arith, known-task-count K, K .limits .task-count .1)
+    omega (arith, head-task-count ρ (K .head), K .limits .task-count .1)
 
 loop-holds : tie.Need-loop-holds Inv-loop μ-loop
 loop-holds c = (search needs, search needs, λ ρ K L. same-none ρ)
@@ -69,12 +69,12 @@ loop-again c =
 returns-2 : tie.Need-returns-2 Inv-loop μ-loop
 returns-2 c =
     let s = c .before .before .before .loop in
-    λ ρ K L. records-left (s .inv .2 ρ K L) (omega (arith, known-task-count K)) (omega (arith, known-count K))
+    λ ρ K L. records-left (s .inv .2 ρ K L) (omega (arith, head-task-count ρ (K .head))) (omega (arith, head-count ρ (K .head)))
 
 returns-3 : tie.Need-returns-3 Inv-loop μ-loop
 returns-3 c =
     let s = c .before .before .before .loop in
-    λ ρ K L. none-left (s .inv .2 ρ K L) (omega (arith, known-task-count K)) (omega (arith, known-count K))
+    λ ρ K L. none-left (s .inv .2 ρ K L) (omega (arith, head-task-count ρ (K .head))) (omega (arith, head-count ρ (K .head)))
 
 pub jobs-place-spec : {M : Type 1} → statement M
 jobs-place-spec =

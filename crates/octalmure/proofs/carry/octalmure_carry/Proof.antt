@@ -13,18 +13,6 @@ returns c =
     let e = carry-short (now (a .file)) (a .horizon) (now (a .output)) (now (a .answer)) (search needs) in
     (sym (ap (λ t. t .returns) e), sym (ap (λ t. t .output) e), sym (ap (λ t. t .answer) e))
 
-carry-file-requires : tie.Need-carry-file-requires
-carry-file-requires c κs = search needs
-
-write-answer-requires : tie.Need-write-answer-requires
-write-answer-requires c κs = search needs
-
-same-length : tie.Need-same-length
-same-length c = search needs
-
-same-length-2 : tie.Need-same-length-2
-same-length-2 c = search needs
-
 returns-2 : tie.Need-returns-2
 returns-2 c =
     let a = c .before .before .before .before .before .before .before .before .before .before .before .before .args in
@@ -41,8 +29,8 @@ octalmure-carry-spec =
     tie.close
     (tie.spec
     returns
-    carry-file-requires
-    write-answer-requires
-    same-length
-    same-length-2
+    (λ c κs. search needs)
+    (λ c κs. search needs)
+    (λ c. search needs)
+    (λ c. search needs)
     returns-2)

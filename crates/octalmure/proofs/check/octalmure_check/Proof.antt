@@ -13,15 +13,6 @@ returns c =
     let e = check-short (now (a .file)) (now (a .answer)) (search needs) in
     (sym (ap (λ t. t .returns) e), sym (ap (λ t. t .answer) e))
 
-check-file-requires : tie.Need-check-file-requires
-check-file-requires c κs = search needs
-
-write-answer-requires : tie.Need-write-answer-requires
-write-answer-requires c κs = search needs
-
-same-length : tie.Need-same-length
-same-length c = search needs
-
 returns-2 : tie.Need-returns-2
 returns-2 c =
     let a = c .before .before .before .before .before .before .before .before .args in
@@ -32,4 +23,4 @@ returns-2 c =
 
 pub octalmure-check-spec : {M : Type 1} → statement M
 octalmure-check-spec =
-    tie.close (tie.spec returns check-file-requires write-answer-requires same-length returns-2)
+    tie.close (tie.spec returns (λ c κs. search needs) (λ c κs. search needs) (λ c. search needs) returns-2)

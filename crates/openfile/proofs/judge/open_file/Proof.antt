@@ -7,26 +7,14 @@ use Rattle.openfile.proofs.judge.open_file.Tie as tie
 returns : tie.Need-returns
 returns c = setting-uncounted _ (omega arith)
 
-num-at-requires : tie.Need-num-at-requires
-num-at-requires c κs = search needs
-
 returns-2 : tie.Need-returns-2
 returns-2 c = setting-miscounted _ (omega arith) (λ h. omega arith)
 
 returns-3 : tie.Need-returns-3
 returns-3 c = setting-cut _ (omega arith)
 
-setting-of-requires : tie.Need-setting-of-requires
-setting-of-requires c κs = search needs
-
-in-range-requires : tie.Need-in-range-requires
-in-range-requires c κs = search needs
-
 returns-4 : tie.Need-returns-4
 returns-4 c = setting-out _ (omega arith) (c .before .before .setting-of .ensures) (cc)
-
-judge-tasks-requires : tie.Need-judge-tasks-requires
-judge-tasks-requires c κs = search needs
 
 returns-5 : tie.Need-returns-5
 returns-5 c = setting-fine _ (omega arith) (c .before .before .before .setting-of .ensures) (cc) (c .judge-tasks .ensures)
@@ -36,11 +24,11 @@ open-file-spec =
     tie.close
     (tie.spec
     returns
-    num-at-requires
+    (λ c κs. search needs)
     returns-2
     returns-3
-    setting-of-requires
-    in-range-requires
+    (λ c κs. search needs)
+    (λ c κs. search needs)
     returns-4
-    judge-tasks-requires
+    (λ c κs. search needs)
     returns-5)

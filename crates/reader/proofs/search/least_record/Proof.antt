@@ -24,20 +24,8 @@ abbrev μ-loop : tie.MeasureT-loop
 loop-holds : tie.Need-loop-holds Inv-loop μ-loop
 loop-holds c = (search needs, none-yet _)
 
-record-at-requires : tie.Need-record-at-requires Inv-loop μ-loop
-record-at-requires c κs = search needs
-
-is-of-requires : tie.Need-is-of-requires Inv-loop μ-loop
-is-of-requires c κs = search needs
-
 returns : tie.Need-returns Inv-loop μ-loop
 returns c = first-hit _ 0 _ (omega arith) (omega arith) (c .before .before .before .before .loop .inv .1) (tested _ (c .before .before .record-at .ensures) (c .before .is-of .ensures) (c .if1 .taken))
-
-add-k : tie.Need-add-k Inv-loop μ-loop
-add-k c = search needs
-
-loop-less : tie.Need-loop-less Inv-loop μ-loop
-loop-less c = search needs
 
 loop-again : tie.Need-loop-again Inv-loop μ-loop
 loop-again c = (search needs, none-on _ (c .before .before .before .before .loop .inv .1) (tested _ (c .before .before .record-at .ensures) (c .before .is-of .ensures) (c .if1 .left)))
@@ -52,10 +40,10 @@ least-record-spec =
     Inv-loop
     μ-loop
     loop-holds
-    record-at-requires
-    is-of-requires
+    (λ c κs. search needs)
+    (λ c κs. search needs)
     returns
-    add-k
-    loop-less
+    (λ c. search needs)
+    (λ c. search needs)
     loop-again
     returns-2)

@@ -13,15 +13,6 @@ returns c = sym (no-period _ _ (omega arith))
 returns-2 : tie.Need-returns-2
 returns-2 c = sym (no-job _ _ (omega arith) (omega arith))
 
-sub-result : tie.Need-sub-result
-sub-result c = search needs
-
-sub-result-2 : tie.Need-sub-result-2
-sub-result-2 c = search needs
-
-div-result : tie.Need-div-result
-div-result c = search needs
-
 add-result : tie.Need-add-result
 add-result c =
     let a = c .before .before .before .before .before .before .args in
@@ -32,4 +23,4 @@ returns-3 c = some-jobs _ _ (omega arith) (omega arith)
 
 pub jobs-spec : {M : Type 1} → statement M
 jobs-spec =
-    tie.close (tie.spec returns returns-2 sub-result sub-result-2 div-result add-result returns-3)
+    tie.close (tie.spec returns returns-2 (λ c. search needs) (λ c. search needs) (λ c. search needs) add-result returns-3)
