@@ -1,7 +1,7 @@
 /* Octalmure: checks a recorded run of non-preemptive earliest-deadline-first tasks, and carries it to a longer horizon.
  *
  * For C11 and C++11 and later, on x86-64 Linux. Link with -loctalmure; pkg-config knows it as "octalmure".
- * The words of this file (run file, record, late, H, the rules) are those of the project's README.
+ * The words of this file (run file, record, late, H, the rules) are explained in docs/FORMAT.md of the source.
  *
  * An accepted run without lateness says nothing about other runs of the same tasks.
  */
@@ -11,8 +11,16 @@
 #include <stddef.h>
 #include <stdint.h>
 
+#define OCTALMURE_VERSION "0.2.0"
+
+/* One cast for both languages: C++ warns of C's. */
 #ifdef __cplusplus
+#define OCTALMURE_AS(type, value) static_cast<type>(value)
+#define OCTALMURE_ADDRESS(pointer) reinterpret_cast<uintptr_t>(pointer)
 extern "C" {
+#else
+#define OCTALMURE_AS(type, value) ((type)(value))
+#define OCTALMURE_ADDRESS(pointer) ((uintptr_t)(pointer))
 #endif
 
 /* ---- sizes and limits ---- */
@@ -31,10 +39,11 @@ extern "C" {
 enum octalmure_answer_number {
     /* Accepted, no job late. Code 0. */
     OCTALMURE_NONE_LATE = 0,
-    /* Accepted, some late job begins before H. Code: how many records are late, all of them. Place: the least late record that begins
-       before H. */
+    /* Accepted, some late job begins before H. Code: how many records are late, all of them. Place: the lowest-numbered late record
+       that begins before H. */
     OCTALMURE_LATE_BEFORE_H = 1,
-    /* Accepted, late jobs exist, none begins before H. Code: how many records are late. Place: the least late record. */
+    /* Accepted, late jobs exist, none begins before H. Code: how many records are late. Place: the lowest-numbered late
+       record. */
     OCTALMURE_LATE_FROM_H = 2,
     /* A rule is broken. Code: the lowest broken octalmure_rule. Place: the first at which it is broken, as is said there. */
     OCTALMURE_BROKEN = 3,
@@ -63,7 +72,7 @@ enum octalmure_refusal {
     OCTALMURE_REFUSAL_SETTING_COUNT = 2,  /* the setting's count is not 2 */
     OCTALMURE_REFUSAL_SETTING_RANGE = 3,  /* N or H out of range */
     OCTALMURE_REFUSAL_TASK_COUNT = 4,     /* task count out of range */
-    OCTALMURE_REFUSAL_TASK_RANGE = 5,     /* a task out of its ranges; the least one is the place */
+    OCTALMURE_REFUSAL_TASK_RANGE = 5,     /* a task out of its ranges; the lowest-numbered one is the place */
     OCTALMURE_REFUSAL_TOO_MANY_JOBS = 6,  /* more than 512 jobs, at H or, when carrying, at H' */
     OCTALMURE_REFUSAL_RECORD_COUNT = 7,   /* record count above 512 */
     OCTALMURE_REFUSAL_TRAILING_BYTES = 8, /* bytes after the last section */
@@ -123,15 +132,15 @@ uint32_t octalmure_carry(const uint8_t *file, size_t file_length, uint32_t horiz
 
 /* 1 if this can be a slice, as far as its two numbers show. */
 static inline int octalmure_is_slice(const uint8_t *pointer, size_t length) {
-    if (pointer == NULL) {
+    if (!pointer) {
         return length == 0;
     }
-    return length <= PTRDIFF_MAX && length <= UINTPTR_MAX - (uintptr_t)pointer;
+    return length <= PTRDIFF_MAX && length <= UINTPTR_MAX - OCTALMURE_ADDRESS(pointer);
 }
 
 /* 1 if two slices share no byte. The addresses are compared as numbers: C defines no order between pointers to different things. */
 static inline int octalmure_apart(const uint8_t *a, size_t a_length, const uint8_t *b, size_t b_length) {
-    uintptr_t from_a = (uintptr_t)a, from_b = (uintptr_t)b;
+    uintptr_t from_a = OCTALMURE_ADDRESS(a), from_b = OCTALMURE_ADDRESS(b);
     return a_length == 0 || b_length == 0 || from_a + a_length <= from_b || from_b + b_length <= from_a;
 }
 
@@ -141,7 +150,7 @@ static inline uint32_t octalmure_guarded_check(const uint8_t *file, size_t file_
         !octalmure_apart(file, file_length, answer, answer_length)) {
         return OCTALMURE_REFUSED;
     }
-    return octalmure_check(file != NULL ? file : &nothing, file_length, answer != NULL ? answer : &nothing, answer_length);
+    return octalmure_check(file ? file : &nothing, file_length, answer ? answer : &nothing, answer_length);
 }
 
 static inline uint32_t octalmure_guarded_carry(const uint8_t *file, size_t file_length, uint32_t horizon, uint8_t *output,
@@ -153,15 +162,16 @@ static inline uint32_t octalmure_guarded_carry(const uint8_t *file, size_t file_
         !octalmure_apart(output, output_length, answer, answer_length)) {
         return OCTALMURE_REFUSED;
     }
-    return octalmure_carry(file != NULL ? file : &nothing, file_length, horizon, output != NULL ? output : &nothing, output_length,
-                           answer != NULL ? answer : &nothing, answer_length);
+    return octalmure_carry(file ? file : &nothing, file_length, horizon, output ? output : &nothing, output_length,
+                           answer ? answer : &nothing, answer_length);
 }
 
-/* ---- reading an answer ---- */
+/* ---- numbers, and reading an answer ---- */
 
 /* The four bytes there as a number, low byte first: as numbers stand in an answer and in a run file. */
 static inline uint32_t octalmure_number(const uint8_t *bytes) {
-    return (uint32_t)bytes[0] | (uint32_t)bytes[1] << 8 | (uint32_t)bytes[2] << 16 | (uint32_t)bytes[3] << 24;
+    return OCTALMURE_AS(uint32_t, bytes[0]) | OCTALMURE_AS(uint32_t, bytes[1]) << 8 | OCTALMURE_AS(uint32_t, bytes[2]) << 16 |
+           OCTALMURE_AS(uint32_t, bytes[3]) << 24;
 }
 
 /* The five numbers of OCTALMURE_ANSWER_BYTES bytes. */
@@ -206,6 +216,102 @@ static inline const char *octalmure_refusal_text(uint32_t refusal) {
     case OCTALMURE_REFUSAL_SHORT_OUTPUT: return "a lent output is too short";
     default: return "no such refusal";
     }
+}
+
+/* ---- making and reading a run file ---- */
+
+/* A run file is the setting, the tasks and the records, each section after its count; every number is of four bytes, low byte first.
+ * To make one, put into a room of OCTALMURE_FILE_BYTES(tasks, records) bytes, one after the other:
+ *   the setting; the number of tasks, and each task; the number of records, and each record.
+ * Each function writes at a place and gives the place after what it wrote, which must be in the caller's room. Nothing is judged
+ * here: octalmure_check does that.
+ */
+
+#define OCTALMURE_NUMBER_BYTES 4
+#define OCTALMURE_SETTING_BYTES 12 /* the setting's count, N and H */
+#define OCTALMURE_TASK_BYTES 20
+#define OCTALMURE_RECORD_BYTES 24
+
+struct octalmure_setting {
+    uint32_t cores;   /* N */
+    uint32_t horizon; /* H */
+};
+
+struct octalmure_task {
+    uint32_t period;   /* P */
+    uint32_t least;    /* B */
+    uint32_t greatest; /* W */
+    uint32_t offset;   /* O */
+    uint32_t jitter;   /* J */
+};
+
+struct octalmure_record {
+    uint32_t task;
+    uint32_t job;
+    uint32_t release; /* r */
+    uint32_t start;   /* s */
+    uint32_t end;     /* e */
+    uint32_t core;
+};
+
+/* How long a file of so many tasks and records is. Files of at most 32 and 512 are read through. */
+#define OCTALMURE_FILE_BYTES(tasks, records)                                                                                    \
+    (OCTALMURE_SETTING_BYTES + OCTALMURE_NUMBER_BYTES + OCTALMURE_TASK_BYTES * (tasks) + OCTALMURE_NUMBER_BYTES +              \
+     OCTALMURE_RECORD_BYTES * (records))
+
+static inline uint8_t *octalmure_put_number(uint8_t *at, uint32_t number) {
+    at[0] = OCTALMURE_AS(uint8_t, number & 255);
+    at[1] = OCTALMURE_AS(uint8_t, number >> 8 & 255);
+    at[2] = OCTALMURE_AS(uint8_t, number >> 16 & 255);
+    at[3] = OCTALMURE_AS(uint8_t, number >> 24);
+    return at + OCTALMURE_NUMBER_BYTES;
+}
+
+/* The setting with the count before it, 2. */
+static inline uint8_t *octalmure_put_setting(uint8_t *at, struct octalmure_setting setting) {
+    at = octalmure_put_number(at, 2);
+    at = octalmure_put_number(at, setting.cores);
+    return octalmure_put_number(at, setting.horizon);
+}
+
+static inline uint8_t *octalmure_put_task(uint8_t *at, struct octalmure_task task) {
+    at = octalmure_put_number(at, task.period);
+    at = octalmure_put_number(at, task.least);
+    at = octalmure_put_number(at, task.greatest);
+    at = octalmure_put_number(at, task.offset);
+    return octalmure_put_number(at, task.jitter);
+}
+
+static inline uint8_t *octalmure_put_record(uint8_t *at, struct octalmure_record record) {
+    at = octalmure_put_number(at, record.task);
+    at = octalmure_put_number(at, record.job);
+    at = octalmure_put_number(at, record.release);
+    at = octalmure_put_number(at, record.start);
+    at = octalmure_put_number(at, record.end);
+    return octalmure_put_number(at, record.core);
+}
+
+/* The task of the OCTALMURE_TASK_BYTES bytes there. */
+static inline struct octalmure_task octalmure_task_at(const uint8_t *bytes) {
+    struct octalmure_task task;
+    task.period = octalmure_number(bytes);
+    task.least = octalmure_number(bytes + 4);
+    task.greatest = octalmure_number(bytes + 8);
+    task.offset = octalmure_number(bytes + 12);
+    task.jitter = octalmure_number(bytes + 16);
+    return task;
+}
+
+/* The record of the OCTALMURE_RECORD_BYTES bytes there. */
+static inline struct octalmure_record octalmure_record_at(const uint8_t *bytes) {
+    struct octalmure_record record;
+    record.task = octalmure_number(bytes);
+    record.job = octalmure_number(bytes + 4);
+    record.release = octalmure_number(bytes + 8);
+    record.start = octalmure_number(bytes + 12);
+    record.end = octalmure_number(bytes + 16);
+    record.core = octalmure_number(bytes + 20);
+    return record;
 }
 
 #ifdef __cplusplus

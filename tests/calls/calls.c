@@ -1,4 +1,4 @@
-/* calls C2.run C9.run: tries the guarded calls. Its last line is 'N passed, M failed'. */
+/* calls C2.run C9.run: tries the guarded calls, and what else the header has. Its last line is 'N passed, M failed'. */
 #include <octalmure.h>
 #include <stdio.h>
 #include <stdlib.h>
@@ -106,6 +106,7 @@ int main(int argc, char **argv) {
     try_lengths(&sum);
     try_impossible(&sum);
     try_answers(&sum);
+    try_making(&sum, c2, C2_BYTES, c9, c9_length);
     try_small_stack(&sum, c9, c9_length);
     printf("calls: %lu calls were stopped by the guard, as they must be\n", sum.guarded);
     printf("%lu passed, %lu failed\n", sum.passed, sum.failed);

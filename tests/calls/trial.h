@@ -30,5 +30,7 @@ void try_call(Count *sum, const Call *call, const uint8_t *contents, size_t leng
 /* The other tests of the program. */
 void try_answers(Count *sum);
 void try_small_stack(Count *sum, const uint8_t *file, size_t length);
+/* The files are C2 and C9. */
+void try_making(Count *sum, const uint8_t *c2, size_t c2_length, const uint8_t *c9, size_t c9_length);
 
 #endif
