@@ -1,89 +1,125 @@
-/* host FILE HORIZON: checks the run in FILE, carries it to HORIZON, and says in sentences what was shown.
- *
- * Exit status: 0 accepted and carried; 1 a rule is broken; 2 bad usage, or FILE cannot be read; 3 refused.
- */
-#include <errno.h>
+/* octalmure WORD ...: takes the command line apart, runs the word, and writes what it said. */
 #include <octalmure.h>
-#include <stdbool.h>
-#include <stdio.h>
+#include <signal.h>
 #include <string.h>
 
-#include "sentences.h"
+#include "output.h"
+#include "status.h"
+#include "words.h"
 
-enum { STATUS_CARRIED = 0, STATUS_BROKEN = 1, STATUS_USAGE = 2, STATUS_REFUSED = 3 };
+/* What --help or --version asks for is said, whatever else was given. */
+typedef enum { TO_RUN, TO_HELP, WRONG } Wanted;
 
-/* A byte more than the longest file: that one is enough to see that there are too many. */
-enum { ROOM = OCTALMURE_MOST_FILE_BYTES + 1 };
+static bool is_help(const char *text) {
+    return strcmp(text, "--help") == 0 || strcmp(text, "-h") == 0;
+}
 
-/* Any number of four bytes; whether it can be a horizon is for the library to say. */
-static bool read_horizon(const char *text, uint32_t *horizon) {
-    uint64_t number = 0;
-    if (*text == '\0') {
-        return false;
+static Wanted wrong(const char *what, const char *why) {
+    trouble(what, why);
+    return WRONG;
+}
+
+/* '-o OUT' or '-oOUT', at the place i, which moves on to the last that was taken. */
+static Wanted take_out(const Word *word, int argc, char **argv, int *i, Asked *asked) {
+    const char *out = argv[*i] + 2;
+    if (!word->writes) {
+        return wrong(argv[*i], "this word writes no file, so it takes no -o");
     }
-    for (; *text != '\0'; text++) {
-        if (*text < '0' || *text > '9') {
-            return false;
+    if (*out == '\0') {
+        *i += 1;
+        if (*i == argc) {
+            return wrong("-o", "the name of the file to write is missing");
         }
-        number = 10 * number + (uint64_t)(*text - '0');
-        if (number > UINT32_MAX) {
-            return false;
+        out = argv[*i];
+    }
+    if (asked->out != NULL) {
+        return wrong("-o", "given twice");
+    }
+    asked->out = out;
+    return TO_RUN;
+}
+
+static Wanted take_option(const Word *word, int argc, char **argv, int *i, Asked *asked) {
+    if (is_help(argv[*i])) {
+        return TO_HELP;
+    }
+    if (strncmp(argv[*i], "-o", 2) == 0) {
+        return take_out(word, argc, argv, i, asked);
+    }
+    return wrong(argv[*i], "no such option; a name that begins with '-' stands after '--', or as ./NAME");
+}
+
+static Wanted take_given(const Word *word, const char *text, Asked *asked) {
+    if (asked->count == word->most) {
+        return wrong(text, "more than this word takes");
+    }
+    asked->given[asked->count] = text;
+    asked->count++;
+    return TO_RUN;
+}
+
+/* What stands behind the word. */
+static Wanted take_apart(const Word *word, int argc, char **argv, Asked *asked) {
+    bool options = true;
+    for (int i = 2; i < argc; i++) {
+        Wanted wanted = TO_RUN;
+        if (options && strcmp(argv[i], "--") == 0) {
+            options = false;
+        } else if (options && argv[i][0] == '-' && argv[i][1] != '\0') {
+            wanted = take_option(word, argc, argv, &i, asked);
+        } else {
+            wanted = take_given(word, argv[i], asked);
+        }
+        if (wanted != TO_RUN) {
+            return wanted;
         }
     }
-    *horizon = (uint32_t)number;
-    return true;
+    return asked->count >= word->least ? TO_RUN : wrong(word->name, "something is missing behind it");
 }
 
-static bool read_file(const char *name, uint8_t *file, size_t *length) {
-    FILE *in = fopen(name, "rb");
-    if (in == NULL) {
-        return false;
+static Status run_word(const Word *word, int argc, char **argv, Output *output) {
+    Asked asked = {0};
+    switch (take_apart(word, argc, argv, &asked)) {
+    case TO_RUN: return word->run(&asked, output);
+    case TO_HELP: print_help(output->text, word); return FINE;
+    default: fprintf(stderr, "usage: octalmure %s %s\n", word->name, word->usage); return TROUBLE;
     }
-    errno = 0;
-    *length = fread(file, 1, ROOM, in);
-    int wrong = ferror(in) ? errno : 0;
-    fclose(in);
-    errno = wrong;
-    return wrong == 0;
 }
 
-static int status_of(uint32_t answer) {
-    return answer == OCTALMURE_REFUSED ? STATUS_REFUSED : answer == OCTALMURE_BROKEN ? STATUS_BROKEN : STATUS_CARRIED;
+/* 'help' and 'help WORD' are '--help' and 'WORD --help'. */
+static Status run_help(int argc, char **argv, Output *output) {
+    const Word *word = argc > 2 ? find_word(argv[2]) : NULL;
+    if (argc > 2 && word == NULL) {
+        return trouble(argv[2], "no such word; 'octalmure --help' lists them");
+    }
+    print_help(output->text, word);
+    return FINE;
 }
 
-static int check_and_say(const uint8_t *file, size_t length) {
-    uint8_t bytes[OCTALMURE_ANSWER_BYTES] = {0};
-    uint32_t returned = octalmure_guarded_check(file, length, bytes, sizeof bytes);
-    struct octalmure_answer answer = octalmure_decode(bytes);
-    say_checked(&answer);
-    return status_of(returned);
-}
-
-static int carry_and_say(const uint8_t *file, size_t length, uint32_t horizon) {
-    uint8_t bytes[OCTALMURE_ANSWER_BYTES] = {0}, output[OCTALMURE_MOST_FILE_BYTES];
-    uint32_t returned = octalmure_guarded_carry(file, length, horizon, output, sizeof output, bytes, sizeof bytes);
-    struct octalmure_answer answer = octalmure_decode(bytes);
-    say_carried(horizon, &answer);
-    return returned == OCTALMURE_CARRIED ? check_and_say(output, answer.code) : status_of(returned);
+static Status run(int argc, char **argv, Output *output) {
+    if (argc < 2) {
+        print_help(stderr, NULL);
+        return TROUBLE;
+    }
+    if (is_help(argv[1]) || strcmp(argv[1], "help") == 0) {
+        return run_help(argc, argv, output);
+    }
+    if (strcmp(argv[1], "--version") == 0) {
+        fputs("octalmure " OCTALMURE_VERSION "\n", output->text);
+        return FINE;
+    }
+    const Word *word = find_word(argv[1]);
+    return word != NULL ? run_word(word, argc, argv, output) : trouble(argv[1], "no such word; 'octalmure --help' lists them");
 }
 
 int main(int argc, char **argv) {
-    static uint8_t file[ROOM];
-    size_t length;
-    uint32_t horizon;
-    if (argc != 3) {
-        fprintf(stderr, "usage: host FILE HORIZON\n"
-                        "exit status: 0 accepted and carried; 1 a rule is broken; 2 bad usage, or FILE cannot be read; 3 refused\n");
-        return STATUS_USAGE;
+    Output output;
+    keep_descriptors();
+    /* A pipe that ends early and a file that may grow no more are then reasons for which a write fails. */
+    signal(SIGPIPE, SIG_IGN);
+    signal(SIGXFSZ, SIG_IGN);
+    if (open_output(&output) != FINE) {
+        return TROUBLE;
     }
-    if (!read_horizon(argv[2], &horizon)) {
-        fprintf(stderr, "host: '%s' is no horizon: a whole number of ticks, up to 1000000, is\n", argv[2]);
-        return STATUS_USAGE;
-    }
-    if (!read_file(argv[1], file, &length)) {
-        fprintf(stderr, "host: %s cannot be read: %s\n", argv[1], strerror(errno));
-        return STATUS_USAGE;
-    }
-    int status = check_and_say(file, length);
-    return status == STATUS_CARRIED ? carry_and_say(file, length, horizon) : status;
+    return close_output(&output, run(argc, argv, &output));
 }

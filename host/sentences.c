@@ -1,82 +1,142 @@
 #include "sentences.h"
 
 #include <inttypes.h>
-#include <stdio.h>
 
-static void say_late_count(uint32_t late) {
-    printf("Accepted: this run obeys all rules. %" PRIu32 " of its records %s late.\n", late, late == 1 ? "is" : "are");
+#include "stops.h"
+
+/* Every record is called by its task and job too: its number is another in a carried run. */
+static void name_record(FILE *out, const Layout *layout, uint32_t number) {
+    struct octalmure_record record = record_of(layout, number);
+    fprintf(out, "record %" PRIu32 " (task %" PRIu32 ", job %" PRIu32 ")", number, record.task, record.job);
 }
 
-static void say_none_late(void) {
-    printf("Accepted: this run obeys all rules, and none of its jobs is late.\n");
-    printf("That says nothing about other runs of these tasks.\n");
+/* ---- accepted ---- */
+
+static void say_none_late(FILE *out) {
+    fputs("Accepted: this run obeys all rules, and none of its jobs is late.\n", out);
+    fputs("That says nothing about other runs of these tasks.\n", out);
 }
 
-/* The code counts late records that begin from H on, too; only those before H are sure to stay. */
-static void say_late_before_h(const struct octalmure_answer *answer) {
-    say_late_count(answer->code);
-    printf("Record %" PRIu32 " is late and begins before H: that lateness stays shown at every longer horizon.\n", answer->place[0]);
-    if (answer->code > 1) {
-        printf("Late records that begin at H or later, if there are any, may change when the run is carried.\n");
-    }
+static void say_late_count(FILE *out, const Layout *layout, uint32_t late) {
+    fprintf(out, "Accepted: this run obeys all rules. %" PRIu32 " of its %" PRIu32 " %s %s late.\n", late, layout->record_count,
+            layout->record_count == 1 ? "record" : "records", late == 1 ? "is" : "are");
 }
 
-static void say_late_from_h(const struct octalmure_answer *answer) {
-    say_late_count(answer->code);
-    printf("The first is record %" PRIu32 ". Each late one begins at H or later, and a carry may change it.\n", answer->place[0]);
-}
-
-static void say_place(uint32_t rule, const uint32_t place[3]) {
-    switch (rule) {
-    case OCTALMURE_RULE_JOBS:
-        printf("The records and the existing jobs first differ at number %" PRIu32 ", counted from 0.\n", place[0]);
-        break;
-    case OCTALMURE_RULE_NO_OVERLAP:
-    case OCTALMURE_RULE_ORDER:
-        printf("The first pair that breaks it is records %" PRIu32 " and %" PRIu32 ".\n", place[0], place[1]);
-        break;
-    case OCTALMURE_RULE_NO_IDLING:
-        printf("The first record that breaks it is record %" PRIu32 ": ", place[0]);
-        printf("at instant %" PRIu32 " it waits and core %" PRIu32 " is idle.\n", place[1], place[2]);
-        break;
-    default: printf("The first record that breaks it is record %" PRIu32 ".\n", place[0]); break;
-    }
-}
-
-static void say_broken(const struct octalmure_answer *answer) {
-    printf("Not permitted: rule %" PRIu32 " (%s) is broken.\n", answer->code, octalmure_rule_text(answer->code));
-    say_place(answer->code, answer->place);
-    if (answer->code + 1 < OCTALMURE_RULES_END) {
-        printf("Rules after %" PRIu32 " may be broken too; the lowest is named.\n", answer->code);
-    }
-}
-
-static void say_refusal(const struct octalmure_answer *answer) {
-    printf("%s (refusal %" PRIu32 ").\n", octalmure_refusal_text(answer->code), answer->code);
-    if (answer->code == OCTALMURE_REFUSAL_TASK_RANGE) {
-        printf("The first such task is task %" PRIu32 ", counted from 0.\n", answer->place[0]);
-    }
-}
-
-void say_checked(const struct octalmure_answer *answer) {
-    switch (answer->answer) {
-    case OCTALMURE_NONE_LATE: say_none_late(); break;
-    case OCTALMURE_LATE_BEFORE_H: say_late_before_h(answer); break;
-    case OCTALMURE_LATE_FROM_H: say_late_from_h(answer); break;
-    case OCTALMURE_BROKEN: say_broken(answer); break;
-    default:
-        printf("Refused: ");
-        say_refusal(answer);
-        break;
-    }
-}
-
-void say_carried(uint32_t horizon, const struct octalmure_answer *answer) {
-    if (answer->answer == OCTALMURE_CARRIED) {
-        printf("Carried to H = %" PRIu32 ", %" PRIu32 " bytes: one way on of those that the rules permit. Of that run:\n", horizon,
-               answer->code);
+/* Whether lateness stays: only that of a record which begins before the recorded H is sure to. */
+static void say_whether_it_stays(FILE *out, const struct octalmure_record *record, const Said *of) {
+    bool before = record->start < of->recorded;
+    if (of->carried) {
+        fprintf(out, before ? "  It began before the recorded H = %" PRIu32 " and stands here as it was recorded.\n"
+                            : "  It began in the carried part, from H = %" PRIu32 " on: another way on may differ.\n", of->recorded);
     } else {
-        printf("Not carried to H = %" PRIu32 ": ", horizon);
-        say_refusal(answer);
+        fprintf(out, before ? "  It began before H = %" PRIu32 ": its lateness stands unchanged in every carry of this run.\n"
+                            : "  It did not begin before H = %" PRIu32 ": a carry of this run may change it.\n", of->recorded);
+    }
+}
+
+static void say_late(FILE *out, const Said *of, uint32_t number) {
+    struct octalmure_record record = record_of(of->layout, number);
+    uint64_t late = late_by(of->layout, &record);
+    fputs("Late: ", out);
+    name_record(out, of->layout, number);
+    fprintf(out, " was due at %" PRIu64 ", began at %" PRIu32 " and ended at %" PRIu32 ": %" PRIu64 " %s late.\n", record.end - late,
+            record.start, record.end, late, late == 1 ? "tick" : "ticks");
+    say_whether_it_stays(out, &record, of);
+}
+
+static void say_every_late(FILE *out, const Said *of) {
+    for (uint32_t k = 0; k < of->layout->record_count; k++) {
+        struct octalmure_record record = record_of(of->layout, k);
+        if (late_by(of->layout, &record) > 0) {
+            say_late(out, of, k);
+        }
+    }
+}
+
+/* ---- broken ---- */
+
+static void say_jobs_place(FILE *out, const Layout *layout, uint32_t number) {
+    fprintf(out, "The records and the existing jobs first differ at number %" PRIu32 ", counted from 0: ", number);
+    if (number < layout->record_count) {
+        struct octalmure_record record = record_of(layout, number);
+        fprintf(out, "the record there is of task %" PRIu32 ", job %" PRIu32 ".\n", record.task, record.job);
+    } else {
+        fputs("there the records have ended.\n", out);
+    }
+}
+
+static void say_pair(FILE *out, const Layout *layout, const uint32_t place[3], const char *between) {
+    fputs("The first pair that breaks it: ", out);
+    name_record(out, layout, place[0]);
+    fputs(between, out);
+    name_record(out, layout, place[1]);
+    fputs(".\n", out);
+}
+
+static void say_record(FILE *out, const Layout *layout, uint32_t number) {
+    fputs("The lowest-numbered record that breaks it is ", out);
+    name_record(out, layout, number);
+    fputs(": ", out);
+}
+
+static void say_numbers(FILE *out, const Layout *layout, uint32_t number) {
+    struct octalmure_record record = record_of(layout, number);
+    fprintf(out, "r %" PRIu32 ", s %" PRIu32 ", e %" PRIu32 ", core %" PRIu32 ".\n", record.release, record.start, record.end, record.core);
+}
+
+static void say_place(FILE *out, const Layout *layout, uint32_t rule, const uint32_t place[3]) {
+    switch (rule) {
+    case OCTALMURE_RULE_JOBS: say_jobs_place(out, layout, place[0]); break;
+    case OCTALMURE_RULE_NO_OVERLAP: say_pair(out, layout, place, " and "); break;
+    case OCTALMURE_RULE_ORDER: say_pair(out, layout, place, " started before "); break;
+    case OCTALMURE_RULE_NO_IDLING:
+        say_record(out, layout, place[0]);
+        fprintf(out, "at instant %" PRIu32 " it waits, and core %" PRIu32 " is idle.\n", place[1], place[2]);
+        break;
+    default:
+        say_record(out, layout, place[0]);
+        say_numbers(out, layout, place[0]);
+        break;
+    }
+}
+
+static void say_broken_details(FILE *out, const Layout *layout, const struct octalmure_answer *answer) {
+    say_place(out, layout, answer->code, answer->place);
+    if (answer->code + 1 < OCTALMURE_RULES_END) {
+        fprintf(out, "Rules after %" PRIu32 " may be broken too; the lowest-numbered is named.\n", answer->code);
+    }
+}
+
+/* ---- all of it ---- */
+
+void say_verdict(FILE *out, const Layout *layout, const struct octalmure_answer *answer) {
+    switch (answer->answer) {
+    case OCTALMURE_NONE_LATE: say_none_late(out); break;
+    case OCTALMURE_LATE_BEFORE_H:
+    case OCTALMURE_LATE_FROM_H: say_late_count(out, layout, answer->code); break;
+    case OCTALMURE_BROKEN:
+        fprintf(out, "Not permitted: rule %" PRIu32 " (%s) is broken.\n", answer->code, octalmure_rule_text(answer->code));
+        break;
+    default: fprintf(out, "Refused: %s (refusal %" PRIu32 ").\n", octalmure_refusal_text(answer->code), answer->code); break;
+    }
+}
+
+void say_details(FILE *out, const Said *of, const struct octalmure_answer *answer) {
+    switch (answer->answer) {
+    case OCTALMURE_NONE_LATE: break;
+    case OCTALMURE_LATE_BEFORE_H:
+    case OCTALMURE_LATE_FROM_H: say_every_late(out, of); break;
+    case OCTALMURE_BROKEN: say_broken_details(out, of->layout, answer); break;
+    default: say_where_it_stops(out, of->layout, answer); break;
+    }
+}
+
+void say_carried(FILE *out, const Horizon *horizon, const struct octalmure_answer *answer) {
+    if (answer->answer == OCTALMURE_CARRIED) {
+        fprintf(out, "Carried to H = %s, %" PRIu32 " bytes: one way on of those that the rules permit. Of that run:\n", horizon->digits,
+                answer->code);
+    } else {
+        fprintf(out, "Not carried to H = %s: %s (refusal %" PRIu32 ").\n", horizon->digits, octalmure_refusal_text(answer->code),
+                answer->code);
     }
 }

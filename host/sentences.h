@@ -1,12 +1,24 @@
-/* What an answer says of a run, in sentences that claim no more than was shown. */
-#ifndef SENTENCES_H
-#define SENTENCES_H
+/* What was shown, in sentences. They claim no more than the library said. */
+#ifndef OCTALMURE_SENTENCES_H
+#define OCTALMURE_SENTENCES_H
 
-#include <octalmure.h>
+#include <stdio.h>
 
-/* The answer of a check. */
-void say_checked(const struct octalmure_answer *answer);
-/* The answer of a carry to the horizon. */
-void say_carried(uint32_t horizon, const struct octalmure_answer *answer);
+#include "horizon.h"
+#include "layout.h"
+
+/* The run of which something is said, and the H of the recorded one: lateness of what begins before that was recorded. */
+typedef struct {
+    const Layout *layout;
+    bool carried;
+    uint32_t recorded;
+} Said;
+
+/* What a check said of a file: the verdict, and then what belongs to it: every late record, or the first place, or where a refused
+   file stops. */
+void say_verdict(FILE *out, const Layout *layout, const struct octalmure_answer *answer);
+void say_details(FILE *out, const Said *of, const struct octalmure_answer *answer);
+/* What a carry of an accepted run said. */
+void say_carried(FILE *out, const Horizon *horizon, const struct octalmure_answer *answer);
 
 #endif
