@@ -30,13 +30,24 @@ SPOILED = {
         record(1, "s"): 19, record(1, "e"): 21,
         record(2, "s"): 15, record(2, "e"): 23,
     },
+    "rule-1-other": {record(1, "job"): 7},
+    "far": {task(2, "P"): 900000, task(3, "P"): 900000},
+    "top": {record(0, "s"): 2**32 - 9, record(0, "e"): 2**32 - 1, record(1, "s"): 9, record(1, "e"): 3, record(2, "task"): 4},
     "refusal-2": {0: 3},
+    "refusal-3": {1: 17},
+    "refusal-4": {3: 33},
     "refusal-5": {task(1, "P"): 0},
+    "refusal-7": {FIRST_RECORD - 1: 513},
 }
+# how many bytes are left
+CUT = {"cut-count": 2, "cut-setting": 8, "cut-tasks": 61, "cut-records": 150}
 
 for name, changes in SPOILED.items():
     numbers = list(struct.unpack(f"<{len(C1) // 4}I", C1))
     for at, value in changes.items():
         numbers[at] = value
     (FOLDER / f"{name}.run").write_bytes(struct.pack(f"<{len(numbers)}I", *numbers))
+for name, length in CUT.items():
+    (FOLDER / f"{name}.run").write_bytes(C1[:length])
+(FOLDER / "one-more.run").write_bytes(C1 + bytes(1))
 (FOLDER / "too-long.run").write_bytes(C1 + bytes(20000))
