@@ -10,6 +10,7 @@ import sys
 from trial import NOBODY, contents, folder, seen, text, told
 
 OLD = b"what stood there\n"
+ENDS = ("SIGHUP", "SIGINT", "SIGQUIT", "SIGTERM")
 SAYING = (["check", "c1.run"], ["carry", "c9.run", "512"], ["carry", "c1.run", "19"], ["show", "c9.run"], ["say", "c1.run", "30"],
           ["--help"], ["check", "--help"], ["--version"])
 
@@ -95,21 +96,27 @@ def mask():
     return given
 
 
+def usual_signals():
+    """None is ignored, though this stage may run where some are, as in the background of a shell."""
+    for name in ENDS:
+        signal.signal(getattr(signal, name), signal.SIG_DFL)
+
+
 def signals(room):
     """A signal while the file stands under its other name removes it, and ends the program; one that is ignored does not."""
     place = room.at / "signals"
     place.mkdir()
     out = place / "out.run"
     out.write_bytes(OLD)
-    for name in ("SIGHUP", "SIGINT", "SIGQUIT", "SIGTERM"):
-        done, before, after = into(room, out, ("c9.run", "512"), fault=name)
+    for name in ENDS:
+        done, before, after = into(room, out, ("c9.run", "512"), fault=name, preexec_fn=usual_signals)
         yield f"-o, {name}: {seen(done)}", done.returncode == -getattr(signal, name)
         yield f"-o, {name}: {sorted(after)}", before == after
     done = into(room, out, ("c9.run", "512"), fault="SIGHUP", preexec_fn=lambda: signal.signal(signal.SIGHUP, signal.SIG_IGN))[0]
     yield f"-o, SIGHUP ignored: {seen(done)}", done.returncode == 0 and contents(out) == (room.runs / "c9.run").read_bytes()
     # while it waits for its input
     before = folder(place)
-    with subprocess.Popen([*room.command, "carry", "-", "30", "-o", str(out)], stdin=subprocess.PIPE) as waiting:
+    with subprocess.Popen([*room.command, "carry", "-", "30", "-o", str(out)], stdin=subprocess.PIPE, preexec_fn=usual_signals) as waiting:
         waiting.send_signal(signal.SIGTERM)
         waiting.wait()
     yield f"a signal while it reads: {waiting.returncode}", waiting.returncode == -signal.SIGTERM and folder(place) == before
