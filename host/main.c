@@ -7,7 +7,7 @@
 #include "status.h"
 #include "words.h"
 
-/* What --help or --version asks for is said, whatever else was given. */
+/* What the command line comes to behind a word; the first of them that is wrong, or asks for help, decides. */
 typedef enum { TO_RUN, TO_HELP, WRONG } Wanted;
 
 static bool is_help(const char *text) {

@@ -39,42 +39,47 @@ static void catch_ends(void) {
     }
 }
 
-/* Holds the signals back (SIG_BLOCK) or lets them come (SIG_UNBLOCK). */
-static void hold_ends(int how) {
-    sigset_t set;
+/* Holds the signals back; gives those that were held back before, by the caller perhaps, which stay so. */
+static sigset_t hold_ends(void) {
+    sigset_t set, before;
     sigemptyset(&set);
     for (size_t i = 0; i < ENDS; i++) {
         sigaddset(&set, ends[i]);
     }
-    sigprocmask(how, &set, NULL);
+    sigprocmask(SIG_BLOCK, &set, &before);
+    return before;
+}
+
+static void let_ends(sigset_t before) {
+    sigprocmask(SIG_SETMASK, &before, NULL);
 }
 
 /* Makes the file, and notes its name before a signal can come. */
 static int make_unfinished(char *name) {
-    hold_ends(SIG_BLOCK);
+    sigset_t before = hold_ends();
     int file = mkstemp(name);
     unfinished = file >= 0 ? name : NULL;
-    hold_ends(SIG_UNBLOCK);
+    let_ends(before);
     return file;
 }
 
 /* The name is given up in the same breath as the file is moved: a signal in between would remove another's file. */
 static bool move_unfinished(const char *target) {
-    hold_ends(SIG_BLOCK);
+    sigset_t before = hold_ends();
     bool moved = rename(unfinished, target) == 0;
     if (moved) {
         unfinished = NULL;
     }
-    hold_ends(SIG_UNBLOCK);
+    let_ends(before);
     return moved;
 }
 
 static void drop_unfinished(void) {
     int error = errno;
-    hold_ends(SIG_BLOCK);
+    sigset_t before = hold_ends();
     unlink(unfinished);
     unfinished = NULL;
-    hold_ends(SIG_UNBLOCK);
+    let_ends(before);
     errno = error;
 }
 

@@ -13,7 +13,7 @@ static void show_size(FILE *out, const Input *input) {
     if (input->length < MOST_INPUT) {
         fprintf(out, ": %zu bytes\n", input->length);
     } else {
-        fprintf(out, ": more than %d bytes, of which no more are read\n", OCTALMURE_MOST_FILE_BYTES);
+        fprintf(out, ": more than %d bytes\n", OCTALMURE_MOST_FILE_BYTES);
     }
 }
 

@@ -122,7 +122,7 @@ def hold_tables(file, shown, status):
 
 def hold_said(file, shown, name, status):
     """The size, and a verdict that agrees with the exit status; who is late is counted as the table says it."""
-    size = f"{file.size} bytes" if file.size <= MOST_BYTES else f"more than {MOST_BYTES} bytes, of which no more are read"
+    size = f"{file.size} bytes" if file.size <= MOST_BYTES else f"more than {MOST_BYTES} bytes"
     hold(shown.name == f"{name}: {size}", f"the first line is '{shown.name}'")
     begin = {0: "Accepted: ", 1: "Not permitted: rule ", 3: "Refused: "}[status]
     hold(shown.said and shown.said[0].startswith(begin), f"status {status}, and it says '{shown.said[:1]}'")

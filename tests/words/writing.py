@@ -102,6 +102,12 @@ def usual_signals():
         signal.signal(getattr(signal, name), signal.SIG_DFL)
 
 
+def hold_back():
+    """The caller holds a signal back: it is not for the command to let it come."""
+    signal.signal(signal.SIGTERM, signal.SIG_DFL)
+    signal.pthread_sigmask(signal.SIG_BLOCK, {signal.SIGTERM})
+
+
 def signals(room):
     """A signal while the file stands under its other name removes it, and ends the program; one that is ignored does not."""
     place = room.at / "signals"
@@ -114,6 +120,9 @@ def signals(room):
         yield f"-o, {name}: {sorted(after)}", before == after
     done = into(room, out, ("c9.run", "512"), fault="SIGHUP", preexec_fn=lambda: signal.signal(signal.SIGHUP, signal.SIG_IGN))[0]
     yield f"-o, SIGHUP ignored: {seen(done)}", done.returncode == 0 and contents(out) == (room.runs / "c9.run").read_bytes()
+    out.write_bytes(OLD)
+    done = into(room, out, ("c9.run", "512"), fault="SIGTERM", preexec_fn=hold_back)[0]
+    yield f"-o, SIGTERM held back: {seen(done)}", done.returncode == 0 and contents(out) == (room.runs / "c9.run").read_bytes()
     # while it waits for its input
     before = folder(place)
     with subprocess.Popen([*room.command, "carry", "-", "30", "-o", str(out)], stdin=subprocess.PIPE, preexec_fn=usual_signals) as waiting:
