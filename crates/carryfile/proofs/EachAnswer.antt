@@ -7,14 +7,13 @@ use mathlib.Core.List.{List}
 use native.Mathlib.Omega.{arith}
 use lib.Dec.{leb}
 use lib.ListN.{length}
-use Rattle.base.proofs.Test.{says-leb, says-and, says-true}
-use Rattle.carrytheory.proofs.CarryGates.{gate-opens, gate-closes}
-use Rattle.carrytheory.proofs.CarryRefusals.{refusedCarry}
+use Rattle.base.proofs.Test.{says-leb, says-and, says-true, fails, holds}
+use Rattle.model.proofs.Gates.{gate-opens, gate-closes, leaves, leaves-refused}
 use Rattle.carrytheory.proofs.Demand3.{carried-size}
 use Rattle.model.specs.declared.task.Task.{Task}
-use Rattle.model.specs.Answers.{Five, refusal, carriedTo}
+use Rattle.model.specs.Answers.{Five, refusal, bytesWritten, refusedWith, Outcome, gateOutcome, writtenOut}
 use Rattle.model.specs.Calls.{front}
-use Rattle.model.specs.Carry.{Carried, carried, gateCarry, carriedFile, carryRun, carryOf, carry}
+use Rattle.model.specs.Carry.{carried, carryRun, carryOf, carry}
 use Rattle.model.specs.Compute.Verdict.{verdict}
 use Rattle.model.specs.File.{read, refused, bytes, sizeOf}
 use Rattle.model.specs.Model.{Run, mostHorizon, mostJobs, totalJobs, existing}
@@ -28,29 +27,11 @@ use Rattle.carrytheory.specs.Allowed.{Allowed}
 use Rattle.carryrun.specs.Writable.{Writable}
 use Rattle.carryfile.specs.ToldAndWritten.{Carries}
 
--- what is told and written, of what the carry is
-tells : (b : List ℕ) (H′ : ℕ) (output after : List ℕ) {f : Five} {o : Carried} → carry b H′ (length output) ≡ o → f ≡ o .told → after ≡ front (o .writes) output
-    → Carries b H′ output f after
-tells b H′ output after e f w = (f ∙ ap (λ x. x .told) (sym e), w ∙ ap (λ x. front (x .writes) output) (sym e))
-
-refuses : (b : List ℕ) (H′ : ℕ) (output : List ℕ) {ν i : ℕ} → carry b H′ (length output) ≡ refusedCarry ν i → Carries b H′ output (refusal ν i) output
-refuses b H′ output e = tells b H′ output output e refl refl
-
 -- The file's own refusals
 -- -----------------------
 pub says-refused : (b : List ℕ) (H′ : ℕ) (output : List ℕ) (ν i : ℕ) → read b ≡ refused ν i → Carries b H′ output (refusal ν i) output
 unfolding carry
-says-refused b H′ output ν i e = refuses b H′ output (ap (λ r. carryOf r H′ (length output)) e)
-
--- A test, by its negation
--- -----------------------
-fails : {t : Bool} → not t ≡ true → t ≡ false
-fails {t = true} e = absurd (true≢false (sym e))
-fails {t = false} e = refl
-
-holds : {t : Bool} → not t ≡ false → t ≡ true
-holds {t = true} e = refl
-holds {t = false} e = absurd (true≢false e)
+says-refused b H′ output ν i e = leaves-refused output (ap (λ r. carryOf r H′ (length output)) e)
 
 -- What the tests say of a run that is told
 -- ----------------------------------------
@@ -95,12 +76,12 @@ module _ {b : List ℕ} {h : Head} {ρ : Run} (T : Tells b h ρ) (H′ : ℕ) (o
   module _ {t : Bool} (e : t ≡ (leb (h .setting .horizon) H′ && leb H′ mostHorizon)) where
     pub says-9 : not t ≡ true → Carries b H′ output (refusal 9 0) output
     unfolding carryRun
-    says-9 n = refuses b H′ output (whole-is ∙ gate-closes 9 _ _ (sym (far T H′ e) ∙ fails n))
+    says-9 n = leaves-refused output (whole-is ∙ gate-closes 9 _ _ (sym (far T H′ e) ∙ fails n))
 
     pub says-6 : {m : ℕ} → not t ≡ false → m ≡ totalJobs (ρ .tasks) H′ → not (leb m mostJobs) ≡ true → Carries b H′ output (refusal 6 0) output
     unfolding carryRun
     says-6 n count l =
-        refuses b H′ output
+        leaves-refused output
         (whole-is ∙ gate-opens 9 _ _ _ (sym (far T H′ e) ∙ holds n) (gate-closes 6 _ _ (ap (λ k. leb k mostJobs) (sym count) ∙ fails l)))
 
   -- by the run's own answer, and the size of the file that is to be written
@@ -108,7 +89,7 @@ module _ {b : List ℕ} {h : Head} {ρ : Run} (T : Tells b h ρ) (H′ : ℕ) (o
     abbrev out : List ℕ
     out = bytes (carried ρ H′)
 
-    past-6 : {o : Carried} → gateCarry 10 (leb (verdict ρ .answer) 2) (gateCarry 11 (leb (length out) (length output)) (carriedFile out)) ≡ o
+    past-6 : {o : Outcome} → gateOutcome 10 (leb (verdict ρ .answer) 2) (gateOutcome 11 (leb (length out) (length output)) (writtenOut out)) ≡ o
         → carry b H′ (length output) ≡ o
     unfolding carryRun
     past-6 q =
@@ -117,10 +98,10 @@ module _ {b : List ℕ} {h : Head} {ρ : Run} (T : Tells b h ρ) (H′ : ℕ) (o
         (gate-opens 6 _ _ _ (says-true (says-leb (totalJobs (ρ .tasks) H′) mostJobs) (R .few)) q)
 
     pub says-10 : {t : Bool} {f : Five} → t ≡ leb (f .answer) 2 → f ≡ verdict ρ → not t ≡ true → Carries b H′ output (refusal 10 0) output
-    says-10 e v n = refuses b H′ output (past-6 (gate-closes 10 _ _ (sym (accepted ρ e v) ∙ fails n)))
+    says-10 e v n = leaves-refused output (past-6 (gate-closes 10 _ _ (sym (accepted ρ e v) ∙ fails n)))
 
     module _ (O : Obeys ρ) {m : ℕ} (count : m ≡ length (existing ρ H′)) {s : ℕ} (size : s ≡ sizeOf (h .tasks) m) where
-      past-10 : {o : Carried} → gateCarry 11 (leb (length out) (length output)) (carriedFile out) ≡ o → carry b H′ (length output) ≡ o
+      past-10 : {o : Outcome} → gateOutcome 11 (leb (length out) (length output)) (writtenOut out) ≡ o → carry b H′ (length output) ≡ o
       past-10 q = past-6 (gate-opens 10 _ _ _ (says-true (says-leb (verdict ρ .answer) 2) (accepted-exactly-if-obeyed ρ .1 O)) q)
 
       is-size : length out ≡ s
@@ -132,8 +113,8 @@ module _ {b : List ℕ} {h : Head} {ρ : Run} (T : Tells b h ρ) (H′ : ℕ) (o
       is-room = ap (λ k. leb k (length output)) is-size
 
       pub says-11 : not (leb s (length output)) ≡ true → Carries b H′ output (refusal 11 0) output
-      says-11 n = refuses b H′ output (past-10 (gate-closes 11 _ _ (is-room ∙ fails n)))
+      says-11 n = leaves-refused output (past-10 (gate-closes 11 _ _ (is-room ∙ fails n)))
 
-      pub says-5 : {after : List ℕ} → not (leb s (length output)) ≡ false → after ≡ front out output → Carries b H′ output (carriedTo s) after
-      unfolding carriedFile
-      says-5 {after} n w = tells b H′ output after (past-10 (gate-opens 11 _ _ _ (is-room ∙ holds n) refl)) (ap carriedTo (sym is-size)) w
+      pub says-5 : {after : List ℕ} → not (leb s (length output)) ≡ false → after ≡ front out output → Carries b H′ output (bytesWritten s) after
+      unfolding writtenOut
+      says-5 {after} n w = leaves output after (past-10 (gate-opens 11 _ _ _ (is-room ∙ holds n) refl)) (ap bytesWritten (sym is-size)) w

@@ -31,7 +31,7 @@ fn accepts(a: Answer) -> bool
         Answer::LateFromH(late, record) => true,
         Answer::RuleBroken(rule, x, y, z) => false,
         Answer::Refused(number, task) => false,
-        Answer::Carried(bytes) => false,
+        Answer::Written(bytes) => false,
     }
 }
 
@@ -52,7 +52,7 @@ fn carry_to(file: &[u8], head: Head, horizon: u32, m: u32, output: &mut [u8]) ->
         return Answer::Refused(11, 0);
     }
     write_carry(file, head, tasks, horizon, m as usize, output);
-    Answer::Carried(size as u32)
+    Answer::Written(size as u32)
 }
 
 // Whether a run to one horizon may be carried to another: it is not below it, and not above the limit.

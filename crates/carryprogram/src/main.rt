@@ -13,7 +13,7 @@ use text::line_of;
 
 // The file that was written, or the line.
 fn print_carried(told: Answer, output: &[u8]) {
-    if let Answer::Carried(bytes) = told {
+    if let Answer::Written(bytes) = told {
         let n = bytes as usize;
         if n <= output.len() {
             io::write_all(STDOUT_FILENO, &output[0..n]);

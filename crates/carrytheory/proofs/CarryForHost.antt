@@ -8,22 +8,21 @@ use native.Mathlib.Decide.{decLt}
 use lib.ListN.{length, drop}
 use Rattle.model.specs.Model.{Run, IsRecord, WithinLimits, mostHorizon, mostJobs, totalJobs, rec}
 use Rattle.model.specs.Rules.{Obeys}
-use Rattle.model.specs.Answers.{carriedTo, Late, BeginsBeforeH}
+use Rattle.model.specs.Answers.{bytesWritten, refusedWith, Late, BeginsBeforeH, Outcome, writtenOut}
 use Rattle.model.specs.File.{Bytes, bytesOf, bytes, recordNumbers, whole, read, partOf, recordPart}
 use Rattle.model.specs.Refusals.{NoFault, runIn, askedOfFile, askedOfCarry, askedOfBoth, Names}
-use Rattle.model.specs.Calls.{answerSize, front, fiveIn, CarryCall, carryCall}
-use Rattle.model.specs.Carry.{Carried, carried, carriedFile, carry}
+use Rattle.model.specs.Calls.{answerSize, front, fiveIn, OutputCall, carryCall}
+use Rattle.model.specs.Carry.{carried, carry}
 use Rattle.model.specs.Compute.Verdict.{verdict, checkOf, check}
 use Rattle.model.proofs.Demand2.{accepted-exactly-if-obeyed}
 use Rattle.model.proofs.Reading.{read-limits, read-is}
 use Rattle.model.proofs.Refusals.{no-fault, no-fault-both, told-exactly-when, Comes}
 use Rattle.model.proofs.RoundTrip.{length-bytes}
-use Rattle.model.proofs.FiveFit.{FiveFit, five-read, refusal-fits}
-use Rattle.model.proofs.Calls.{carry-short, carry-filled, answer-kept}
+use Rattle.model.proofs.FiveFit.{FiveFit, refusal-fits, output-told}
 use Rattle.carrytheory.proofs.ShowsLate.{one-exactly-if-shown}
-use Rattle.carrytheory.proofs.RecordBytes.{written-are-bytes, record-bytes}
+use Rattle.model.proofs.RecordBytes.{written-are-bytes, record-bytes}
 use Rattle.carrytheory.proofs.Demand3.{carried-within, carried-obeys, carried-reads, kept, lateness-stays}
-use Rattle.carrytheory.proofs.CarryRefusals.{refusedCarry, fault-listed-both, carry-comes, carry-carries}
+use Rattle.carrytheory.proofs.CarryRefusals.{fault-listed-both, carry-comes, carry-carries}
 
 -- What is known of a file that is carried.
 pub record Carriable (b : List ℕ) (H′ : ℕ) : Type 0 where
@@ -44,10 +43,10 @@ carriable b H′ room h =
 -- ----------------------------------------------------------------------------------
 module _ (b : List ℕ) (H′ room : ℕ) where
   abbrev Comes-carry : Type 0
-  Comes-carry = Comes refusedCarry (carriedFile (bytes (carried (runIn b) H′))) (Names b) (askedOfBoth b H′ room) (carry b H′ room)
+  Comes-carry = Comes refusedWith (writtenOut (bytes (carried (runIn b) H′))) (Names b) (askedOfBoth b H′ room) (carry b H′ room)
 
   pub refused-writes-nothing : ¬ (carry b H′ room .told .answer ≡ 5) → (carry b H′ room .told .answer ≡ 4) × (carry b H′ room .writes ≡ [])
-  unfolding carriedFile
+  unfolding writtenOut
   refused-writes-nothing other = go (carry-comes b H′ room)
     where
       go : Comes-carry → (carry b H′ room .told .answer ≡ 4) × (carry b H′ room .writes ≡ [])
@@ -55,7 +54,7 @@ module _ (b : List ℕ) (H′ room : ℕ) where
       go (Comes.passes h e) = absurd (other (ap (λ o. o .told .answer) e))
 
   pub carries-exactly : (carry b H′ room .told .answer ≡ 5) ↔ NoFault (askedOfBoth b H′ room)
-  unfolding carriedFile
+  unfolding writtenOut
   carries-exactly = (λ five. to five (carry-comes b H′ room), λ h. ap (λ f. f .answer) (carry-carries b H′ room .1 h))
     where
       to : carry b H′ room .told .answer ≡ 5 → Comes-carry → NoFault (askedOfBoth b H′ room)
@@ -65,7 +64,7 @@ module _ (b : List ℕ) (H′ room : ℕ) where
   -- the code is the size of what is written
   pub carried-out : NoFault (askedOfBoth b H′ room)
       → (carry b H′ room .told .code ≡ length (bytes (carried (runIn b) H′))) × (carry b H′ room .writes ≡ bytes (carried (runIn b) H′))
-  unfolding carriedFile
+  unfolding writtenOut
   carried-out h = go (carry-comes b H′ room)
     where
       go : Comes-carry → (carry b H′ room .told .code ≡ length (bytes (carried (runIn b) H′))) × (carry b H′ room .writes ≡ bytes (carried (runIn b) H′))
@@ -73,7 +72,7 @@ module _ (b : List ℕ) (H′ room : ℕ) where
       go (Comes.passes g e) = (ap (λ o. o .told .code) e, ap (λ o. o .writes) e)
 
   -- Of a file of bytes the five numbers are of four bytes.
-  size-fits : NoFault (askedOfBoth b H′ room) → FiveFit (carriedTo (length (bytes (carried (runIn b) H′))))
+  size-fits : NoFault (askedOfBoth b H′ room) → FiveFit (bytesWritten (length (bytes (carried (runIn b) H′))))
   size-fits h =
       let C = carriable b H′ room h in
       let L = carried-within (runIn b) H′ (C .limits) (C .obeys) (C .longer) (C .most) (C .few) in
@@ -81,7 +80,7 @@ module _ (b : List ℕ) (H′ room : ℕ) where
       record { answer = omega arith; code = omega (arith, n, L .task-count, L .record-count); x = omega arith; y = omega arith; z = omega arith }
 
   pub carry-fits : Bytes b → FiveFit (carry b H′ room .told)
-  unfolding carriedFile
+  unfolding writtenOut
   carry-fits B = go (carry-comes b H′ room)
     where
       go : Comes-carry → FiveFit (carry b H′ room .told)
@@ -91,30 +90,12 @@ module _ (b : List ℕ) (H′ room : ℕ) where
 
 -- What a host reads after a carry.
 -- --------------------------------
-module _ (b : List ℕ) (H′ : ℕ) (o a : List ℕ) (c : CarryCall) (e : c ≡ carryCall b H′ o a) where
-  abbrev w : Carried
-  w = carry b H′ (length o)
-
-  pub carry-told : Bytes b → answerSize ≤ length a
-      → (fiveIn (c .answer) ≡ carry b H′ (length o) .told)
-      × (c .returns ≡ carry b H′ (length o) .told .answer)
-      × (c .output ≡ front (carry b H′ (length o) .writes) o)
-      × (drop answerSize (c .answer) ≡ drop answerSize a)
-  carry-told B long =
-      let q = e ∙ carry-filled b H′ o a long in (
-        ap (λ c. fiveIn (c .answer)) q ∙ five-read (w .told) a (carry-fits b H′ (length o) B),
-        ap (λ c. c .returns) q,
-        ap (λ c. c .output) q,
-        ap (λ c. drop answerSize (c .answer)) q ∙ answer-kept (w .told) a,
-      )
-
-  -- the answer slice is too short, or it is not
-  pub short-or-long : ((c .returns ≡ 4) × (c .output ≡ o)) ⊎ (answerSize ≤ length a)
-  short-or-long = go (decLt (length a) answerSize)
-    where
-      go : Dec (length a < answerSize) → ((c .returns ≡ 4) × (c .output ≡ o)) ⊎ (answerSize ≤ length a)
-      go (yes h) = let q = e ∙ carry-short b H′ o a h in inl (ap (λ c. c .returns) q, ap (λ c. c .output) q)
-      go (no h) = inr (omega (arith, h))
+pub carry-told : (b : List ℕ) (H′ : ℕ) (o a : List ℕ) (c : OutputCall) → c ≡ carryCall b H′ o a → Bytes b → answerSize ≤ length a
+    → (fiveIn (c .answer) ≡ carry b H′ (length o) .told)
+    × (c .returns ≡ carry b H′ (length o) .told .answer)
+    × (c .output ≡ front (carry b H′ (length o) .writes) o)
+    × (drop answerSize (c .answer) ≡ drop answerSize a)
+carry-told b H′ o a c e B = output-told (carry b H′ (length o)) o a c e (carry-fits b H′ (length o) B)
 
 -- Of the file that is written
 -- ---------------------------

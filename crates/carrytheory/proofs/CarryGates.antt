@@ -2,33 +2,18 @@
 -- jobs at H' and room for the output. Assumes nothing.
 use Prim.Native.Nat.{ℕ, _≤_}
 use mathlib.Core.Path.{_≡_, refl}
-use mathlib.Core.Bool.{Bool, true, false, false≢true, true≢false}
 use native.Mathlib.Omega.{arith}
-use mathlib.Core.List.{List, []}
+use mathlib.Core.List.{List}
 use lib.ListN.{length}
 use Rattle.base.proofs.Test.{says-leb, says-and, says-true}
 use Rattle.model.specs.Model.{Run, mostHorizon, mostJobs, totalJobs}
 use Rattle.model.specs.File.{bytes, Read, refused, whole, read}
 use Rattle.model.specs.Rules.{Obeys}
-use Rattle.model.specs.Answers.{refusal}
+use Rattle.model.specs.Answers.{writtenOut}
 use Rattle.model.specs.Compute.Verdict.{verdict}
-use Rattle.model.specs.Carry.{carried, Carried, gateCarry, carriedFile, carryRun, carryOf, carry}
+use Rattle.model.specs.Carry.{carried, carryRun, carryOf, carry}
 use Rattle.model.proofs.Demand2.{accepted-exactly-if-obeyed}
-
-pub gate-opens : (ν : ℕ) (t : Bool) (o p : Carried) → t ≡ true → o ≡ p → gateCarry ν t o ≡ p
-unfolding gateCarry
-gate-opens ν true o p e q = q
-gate-opens ν false o p e q = absurd (false≢true e)
-
-pub gate-closes : (ν : ℕ) (t : Bool) (o : Carried) → t ≡ false → gateCarry ν t o ≡ record { told = refusal ν 0; writes = [] }
-unfolding gateCarry
-gate-closes ν true o e = absurd (true≢false e)
-gate-closes ν false o e = refl
-
-gate-opened : (ν : ℕ) (t : Bool) (o : Carried) → gateCarry ν t o .told .answer ≡ 5 → (t ≡ true) × (o .told .answer ≡ 5)
-unfolding gateCarry
-gate-opened ν true o e = (refl, e)
-gate-opened ν false o e = absurd (omega arith)
+use Rattle.model.proofs.Gates.{gate-opens, gate-opened}
 
 -- what each gate asks
 pub record Passes (ρ : Run) (H′ room : ℕ) : Type 0 where
@@ -39,7 +24,7 @@ pub record Passes (ρ : Run) (H′ room : ℕ) : Type 0 where
   pub fits : length (bytes (carried ρ H′)) ≤ room
 
 module _ (ρ : Run) (H′ room : ℕ) where
-  pub passes-writes : Passes ρ H′ room → carryRun ρ H′ room ≡ carriedFile (bytes (carried ρ H′))
+  pub passes-writes : Passes ρ H′ room → carryRun ρ H′ room ≡ writtenOut (bytes (carried ρ H′))
   unfolding carryRun
   passes-writes P =
       gate-opens 9 _ _ _ (says-true (says-and (says-leb (ρ .setting .horizon) H′) (says-leb H′ mostHorizon)) (P .longer, P .most))
@@ -65,7 +50,7 @@ module _ (ρ : Run) (H′ room : ℕ) where
 
 -- Of files
 -- --------
-pub carry-passes : (b : List ℕ) (H′ room : ℕ) (ρ : Run) → read b ≡ whole ρ → Passes ρ H′ room → carry b H′ room ≡ carriedFile (bytes (carried ρ H′))
+pub carry-passes : (b : List ℕ) (H′ room : ℕ) (ρ : Run) → read b ≡ whole ρ → Passes ρ H′ room → carry b H′ room ≡ writtenOut (bytes (carried ρ H′))
 unfolding carry
 carry-passes b H′ room ρ q P = rw q (passes-writes ρ H′ room P)
 

@@ -9,10 +9,10 @@ use native.Mathlib.Omega.{arith}
 use lib.ListN.{length}
 use Rattle.base.proofs.Test.{Says, says-leb, says-and, says-map}
 use Rattle.model.specs.Model.{Run, WithinLimits, mostHorizon, mostJobs, totalJobs}
-use Rattle.model.specs.Answers.{refusal, carriedTo, Listed, CarryRow, carry4, carry5}
+use Rattle.model.specs.Answers.{refusal, bytesWritten, refusedWith, Listed, CarryRow, carry4, carry5, Outcome, gateOutcome, writtenOut}
 use Rattle.model.specs.File.{refused, whole, read, bytes}
 use Rattle.model.specs.Refusals.{Asked, FirstFault, NoFault, runIn, askedOfFile, askedOfCarry, askedOfBoth, Names}
-use Rattle.model.specs.Carry.{Carried, carried, gateCarry, carriedFile, carryRun, carryOf, carry}
+use Rattle.model.specs.Carry.{carried, carryRun, carryOf, carry}
 use Rattle.model.specs.Compute.Verdict.{verdict}
 use Rattle.model.proofs.Demand1.{fault-listed}
 use Rattle.model.proofs.Demand2.{accepted-exactly-if-obeyed}
@@ -21,18 +21,15 @@ use Rattle.model.proofs.Refusals.{fault-front, fault-back, no-fault-both, Comes
 use Rattle.carrytheory.proofs.Demand3.{carried-size}
 
 -- A refused carry writes nothing.
-abbrev pub refusedCarry : ℕ → ℕ → Carried
-refusedCarry ν i = record { told = refusal ν i; writes = [] }
-
 module _ (b : List ℕ) (H′ room : ℕ) where
-  abbrev CarryComes : Run → Asked → Carried → Type 0
-  CarryComes ρ = Comes refusedCarry (carriedFile (bytes (carried ρ H′))) (Names b)
+  abbrev CarryComes : Run → Asked → Outcome → Type 0
+  CarryComes ρ = Comes refusedWith (writtenOut (bytes (carried ρ H′))) (Names b)
 
-  asked : (ρ : Run) (ν : ℕ) → ¬ (ν ≡ 5) → (A : Type 0) (qs : Asked) (t : Bool) (o : Carried) → Says t A → (A → CarryComes ρ qs o)
-      → CarryComes ρ ((ν, A) ∷ qs) (gateCarry ν t o)
-  unfolding gateCarry
+  asked : (ρ : Run) (ν : ℕ) → ¬ (ν ≡ 5) → (A : Type 0) (qs : Asked) (t : Bool) (o : Outcome) → Says t A → (A → CarryComes ρ qs o)
+      → CarryComes ρ ((ν, A) ∷ qs) (gateOutcome ν t o)
+  unfolding gateOutcome
   asked ρ ν n A qs t o =
-      comes-asked refusedCarry (carriedFile (bytes (carried ρ H′))) (Names b) ν A qs (gateCarry ν) (λ q. refl) (λ q. refl) (names-none b ν n) t o
+      comes-asked refusedWith (writtenOut (bytes (carried ρ H′))) (Names b) ν A qs (gateOutcome ν) (λ q. refl) (λ q. refl) (names-none b ν n) t o
 
   run-comes : (ρ : Run) → WithinLimits ρ → CarryComes ρ (askedOfCarry ρ H′ room) (carryRun ρ H′ room)
   unfolding carryRun
@@ -64,27 +61,27 @@ module _ (b : List ℕ) (H′ room : ℕ) where
       go (Comes.passes h e) = after h e (run-comes ρ (read-limits b ρ e))
 
   -- the five numbers
-  told-comes : Comes refusal (carriedTo (length (bytes (carried (runIn b) H′)))) (Names b) (askedOfBoth b H′ room) (carry b H′ room .told)
-  unfolding carriedFile
+  told-comes : Comes refusal (bytesWritten (length (bytes (carried (runIn b) H′)))) (Names b) (askedOfBoth b H′ room) (carry b H′ room .told)
+  unfolding writtenOut
   told-comes = go carry-comes
     where
       go : CarryComes (runIn b) (askedOfBoth b H′ room) (carry b H′ room)
-          → Comes refusal (carriedTo (length (bytes (carried (runIn b) H′)))) (Names b) (askedOfBoth b H′ room) (carry b H′ room .told)
+          → Comes refusal (bytesWritten (length (bytes (carried (runIn b) H′)))) (Names b) (askedOfBoth b H′ room) (carry b H′ room .told)
       go (Comes.refuses ν i f m e) = Comes.refuses ν i f m (ap (λ o. o .told) e)
       go (Comes.passes h e) = Comes.passes h (ap (λ o. o .told) e)
 
-  carried≢refused : (n ν i : ℕ) → ¬ (carriedTo n ≡ refusal ν i)
+  carried≢refused : (n ν i : ℕ) → ¬ (bytesWritten n ≡ refusal ν i)
   carried≢refused n ν i e = omega (arith, ap (λ f. f .answer) e)
 
   -- A carry is refused with a number exactly if it is that of the first fault, and carries exactly if there is none.
   pub carry-refuses : (ν i : ℕ) → (carry b H′ room .told ≡ refusal ν i) ↔ (FirstFault (askedOfBoth b H′ room) ν × Names b ν i)
   carry-refuses =
-      comes-refused refusal (carriedTo (length (bytes (carried (runIn b) H′)))) (Names b) five-told (λ ν i. refl) (λ ν i. carried≢refused _ ν i) (names-once b)
+      comes-refused refusal (bytesWritten (length (bytes (carried (runIn b) H′)))) (Names b) five-told (λ ν i. refl) (λ ν i. carried≢refused _ ν i) (names-once b)
       (askedOfBoth b H′ room) (carry b H′ room .told) told-comes
 
-  pub carry-carries : (carry b H′ room .told ≡ carriedTo (length (bytes (carried (runIn b) H′)))) ↔ NoFault (askedOfBoth b H′ room)
+  pub carry-carries : (carry b H′ room .told ≡ bytesWritten (length (bytes (carried (runIn b) H′)))) ↔ NoFault (askedOfBoth b H′ room)
   carry-carries =
-      comes-good refusal (carriedTo (length (bytes (carried (runIn b) H′)))) (Names b) five-told (λ ν i. refl) (λ ν i. carried≢refused _ ν i) (names-once b)
+      comes-good refusal (bytesWritten (length (bytes (carried (runIn b) H′)))) (Names b) five-told (λ ν i. refl) (λ ν i. carried≢refused _ ν i) (names-once b)
       (askedOfBoth b H′ room) (carry b H′ room .told) told-comes
 
 -- Demand 1 of a carry: it is refused with a listed number, or it carries.
@@ -95,7 +92,7 @@ fault-listed-both b H′ room = fault-listed b 11 (askedOfBoth b H′ room) refl
 pub every-carry-answered : (b : List ℕ) (H′ room : ℕ) → CarryRow (carry b H′ room .told)
 every-carry-answered b H′ room = go (told-comes b H′ room)
   where
-    go : Comes refusal (carriedTo (length (bytes (carried (runIn b) H′)))) (Names b) (askedOfBoth b H′ room) (carry b H′ room .told)
+    go : Comes refusal (bytesWritten (length (bytes (carried (runIn b) H′)))) (Names b) (askedOfBoth b H′ room) (carry b H′ room .told)
         → CarryRow (carry b H′ room .told)
     go (Comes.refuses ν i f m e) = subst CarryRow (sym e) (carry4 (fault-listed-both b H′ room ν i f m))
     go (Comes.passes h e) = subst CarryRow (sym e) (carry5 _)

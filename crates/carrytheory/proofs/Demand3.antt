@@ -8,9 +8,9 @@ use native.Mathlib.Nat.{le-mul-of-pos-right}
 use lib.ListN.{length, length-map}
 use Rattle.model.specs.Model.{Run, IsRecord, WithinLimits, rec, taskOf, jobOf, existing, mostHorizon, mostTime, mostJobs, totalJobs}
 use Rattle.model.specs.Rules.{rule1, rule2, rule3, rule4, rule5, rule6, rule7, rule8, Obeys, Jobs}
-use Rattle.model.specs.Answers.{Late, BeginsBeforeH}
+use Rattle.model.specs.Answers.{Late, BeginsBeforeH, writtenOut}
 use Rattle.model.specs.File.{recordNumbers, RecordFits, whole, read, bytes, sizeOf}
-use Rattle.model.specs.Carry.{opening, carried, carriedFile, carry}
+use Rattle.model.specs.Carry.{opening, carried, carry}
 use Rattle.model.specs.Compute.Verdict.{verdict, checkOf, check}
 use Rattle.model.proofs.Jobs.{existing-few}
 use Rattle.model.proofs.Demand2.{accepted-exactly-if-obeyed}
@@ -132,7 +132,7 @@ module _ (ρ : Run) (H′ : ℕ) (L : WithinLimits ρ) (O : Obeys ρ) (longer : 
 
 -- what is said of the file that a carry writes
 written : (b : List ℕ) (H′ room : ℕ) (C : Carries b H′ room) → check (carry b H′ room .writes) ≡ verdict (carried (C .run) H′)
-unfolding check carriedFile
+unfolding check writtenOut
 written b H′ room C =
     let ρ = C .run in
     let P = C .passes in
@@ -166,7 +166,7 @@ shown-stays-shown b H′ room s e =
 pub carry-given-room : (b : List ℕ) (H′ room : ℕ) (ρ : Run) → read b ≡ whole ρ → Obeys ρ → ρ .setting .horizon ≤ H′ → H′ ≤ mostHorizon
     → totalJobs (ρ .tasks) H′ ≤ mostJobs → sizeOf (length (ρ .tasks)) (length (existing ρ H′)) ≤ room
     → (carry b H′ room .told .answer ≡ 5) × (carry b H′ room .writes ≡ bytes (carried ρ H′))
-unfolding carriedFile
+unfolding writtenOut
 carry-given-room b H′ room ρ q O longer most few space =
     let L = read-limits b ρ q in
     let fits : length (bytes (carried ρ H′)) ≤ room = omega (arith, carried-size ρ H′ L O longer most few) in

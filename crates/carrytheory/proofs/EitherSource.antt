@@ -11,15 +11,15 @@ use Rattle.base.proofs.Test.{says-ltb, says-true}
 use Rattle.base.proofs.Searches.{Finds}
 use Rattle.model.specs.Model.{Run, Job, IsRecord, rec, jobOf}
 use Rattle.model.specs.Rules.{Jobs}
-use Rattle.model.specs.Answers.{BeginsBeforeH}
+use Rattle.model.specs.Answers.{BeginsBeforeH, writtenOut}
 use Rattle.model.specs.File.{Bytes, bytesOf, recordNumbers, whole, read, bytes, Part, partOf, recordPart}
-use Rattle.model.specs.Carry.{placeOf, carried, carriedFile, carry, Source, inRecorded, inCarried, leastOf, beganBefore, shownCarried, shownIf, shownOf, shown}
+use Rattle.model.specs.Carry.{placeOf, carried, carry, Source, inRecorded, inCarried, leastOf, beganBefore, shownCarried, shownIf, shownOf, shown}
 use Rattle.model.proofs.Reading.{read-limits}
 use Rattle.carrytheory.proofs.Recorded.{one-record}
 use Rattle.carrytheory.proofs.AtH.{RecordOf, place-finds}
 use Rattle.carrytheory.proofs.CarryGates.{carries, carry-passes}
 use Rattle.carrytheory.proofs.Demand3.{carried-jobs, carried-reads, kept}
-use Rattle.carrytheory.proofs.RecordBytes.{written-are-bytes, record-bytes}
+use Rattle.model.proofs.RecordBytes.{written-are-bytes, record-bytes}
 
 -- the bytes that are shown, of whichever file
 abbrev pub shownBytes : List ℕ → List ℕ → Source → List ℕ
@@ -108,7 +108,7 @@ module _ (b c : List ℕ) (ρ σ : Run) (B : Bytes b) (C : Bytes c) (reads-b : r
 
 pub shown-as-carried : (b : List ℕ) (H′ room : ℕ) (q : Job) → Bytes b → carry b H′ room .told .answer ≡ 5
     → let c = carry b H′ room .writes in shownBytes b c (shown b c q) ≡ saidBy c q
-unfolding carriedFile
+unfolding writtenOut
 shown-as-carried b H′ room q B e =
     let C = carries b H′ room e in
     let ρ = C .run in

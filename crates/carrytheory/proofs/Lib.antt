@@ -14,7 +14,6 @@ pub mod ShowsLate
 pub mod CarryGates
 pub mod Demand3
 pub mod CarryRefusals
-pub mod RecordBytes
 pub mod EitherSource
 pub mod WidenedRun
 pub mod WidenedFile

@@ -5,7 +5,8 @@ use mathlib.Core.List.{List}
 use Rattle.model.specs.Model.{Run, WithinLimits, mostHorizon, mostJobs, totalJobs}
 use Rattle.model.specs.Rules.{Obeys}
 use Rattle.model.specs.File.{whole, read, bytes}
-use Rattle.model.specs.Carry.{carried, carriedFile, carry}
+use Rattle.model.specs.Carry.{carried, carry}
+use Rattle.model.specs.Answers.{writtenOut}
 use Rattle.model.proofs.Reading.{read-limits}
 use Rattle.carrytheory.proofs.ByStarts.{carried-by-starts}
 use Rattle.carrytheory.proofs.CarryGates.{Passes, carries, carry-passes}
@@ -40,14 +41,14 @@ same-run {ρ} {σ} e = cc
 
 run-twice : (b : List ℕ) (ρ : Run) (H′ H″ room′ room″ : ℕ) → read b ≡ whole ρ → Passes ρ H′ room′ → Passes ρ H″ room″ → H′ ≤ H″
     → carry (carry b H′ room′ .writes) H″ room″ ≡ carry b H″ room″
-unfolding carriedFile
+unfolding writtenOut
 run-twice b ρ H′ H″ room′ room″ q P Q further =
     let L = read-limits b ρ q in
     let χ : Run = carried ρ H′ in
     let reads = carried-reads ρ H′ L (P .obeys) (P .longer) (P .most) (P .few) in
     ap (λ o. carry (o .writes) H″ room″) (carry-passes b H′ room′ ρ q P)
     ∙ carry-passes (bytes χ) H″ room″ χ reads (passes-again ρ H′ H″ room′ room″ L P Q further)
-    ∙ ap (λ σ. carriedFile (bytes σ)) (twice-is-once ρ H′ H″ L (P .obeys) (P .longer) further (Q .most) (Q .few))
+    ∙ ap (λ σ. writtenOut (bytes σ)) (twice-is-once ρ H′ H″ L (P .obeys) (P .longer) further (Q .most) (Q .few))
     ∙ sym (carry-passes b H″ room″ ρ q Q)
 
 -- Where a file is carried to H' and to H'', carrying what the first carry writes to H'' says and writes what the second does.

@@ -8,7 +8,7 @@ use model::Answer;
 fn carry_into(file: &[u8], horizon: u32, output: &mut [u8]) {
     let told = carry_file(file, horizon, output);
     print_answer(told);
-    if let Answer::Carried(bytes) = told {
+    if let Answer::Written(bytes) = told {
         let n = bytes as usize;
         if n <= output.len() {
             check_case(&output[0..n]);

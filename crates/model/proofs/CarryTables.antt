@@ -5,8 +5,8 @@ use mathlib.Core.Path.{_≡_, refl}
 use mathlib.Core.List.{List, [], _∷_, map}
 use mathlib.Core.Option.{Option, some}
 use Rattle.model.specs.Model.{Run, Job}
-use Rattle.model.specs.Answers.{five}
-use Rattle.model.specs.Carry.{Carried, unbegun, next}
+use Rattle.model.specs.Answers.{five, Outcome}
+use Rattle.model.specs.Carry.{unbegun, next}
 use Rattle.model.proofs.Worked.{Call, carries, outcome, computedCarry, file, told, wrote}
 
 -- N cores and a horizon, two tasks alike: P 10, B 1, W 1, O 1, J 0. Their jobs 0 exist from H = 2 on and are due together.
@@ -25,7 +25,7 @@ every P H = file 1 H (1 ∷ P ∷ 1 ∷ 1 ∷ 0 ∷ 0 ∷ []) (1 ∷ 0 ∷ 0 ∷
 abbrev lawless : List ℕ
 lawless = file 1 1 (1 ∷ 1 ∷ 1 ∷ 1 ∷ 0 ∷ 0 ∷ []) (1 ∷ 1 ∷ 1 ∷ 3 ∷ 2 ∷ 1 ∷ 9 ∷ [])
 
-abbrev pub table : List (Call × Carried)
+abbrev pub table : List (Call × Outcome)
 table =
     -- of two that are due together the lower task starts first, and on the lower core
     (carries (alike 1 1 (0 ∷ [])) 2 12948, wrote 108 (alike 1 2 (2 ∷ 0 ∷ 0 ∷ 1 ∷ 1 ∷ 2 ∷ 1 ∷ 1 ∷ 0 ∷ 1 ∷ 2 ∷ 3 ∷ 1 ∷ [])))

@@ -5,14 +5,15 @@ use mathlib.Core.Path.{_≡_, refl, sym, subst, _∙_, ap}
 use mathlib.Core.Logic.{_⊎_, inl, inr}
 use mathlib.Core.List.{List, map}
 use native.Mathlib.Omega.{arith}
+use native.Mathlib.Decide.{decLt}
 use lib.ListN.{length, drop, length-map}
 use Rattle.base.specs.First.{First, Number}
 use Rattle.model.specs.Model.{Run, IsRecord, rec, jobOf, existing, WithinLimits, totalJobs}
 use Rattle.model.specs.File.{Bytes, FourBytes, RecordFits, num, taskSize, tasksPlace, taskAt, recordNumbers, recordAt, recordPlace, refused, whole, read}
 use Rattle.model.specs.Rules.{Rule, rule1, rule2, rule3, rule4, rule5, rule6, rule7, rule8, Place, BrokenAt, Fails, OfOne, jobsRecorded}
-use Rattle.model.specs.Answers.{Five, five, number, refusal, Listed, Verdict, Answered}
+use Rattle.model.specs.Answers.{Five, five, number, refusal, Outcome, Listed, Verdict, Answered}
 use Rattle.model.specs.Refusals.{taskCount, tasksTold, Names}
-use Rattle.model.specs.Calls.{answerSize, numbers, written, fiveIn, CheckCall, checkCall}
+use Rattle.model.specs.Calls.{answerSize, numbers, written, front, fiveIn, CheckCall, checkCall, OutputCall, outputCall}
 use Rattle.model.specs.Compute.Verdict.{check}
 use Rattle.model.proofs.Jobs.{existing-few}
 use Rattle.model.proofs.Lowest.{number-range}
@@ -22,7 +23,7 @@ use Rattle.model.proofs.Places.{differ-within}
 use Rattle.model.proofs.Verdict.{check-iff}
 use Rattle.model.proofs.Refusals.{refused-exactly-when}
 use Rattle.model.proofs.Demand1.{refused-listed}
-use Rattle.model.proofs.Calls.{check-filled, answer-kept}
+use Rattle.model.proofs.Calls.{check-filled, output-short, output-filled, answer-kept}
 
 -- Five numbers of four bytes, written into an answer slice, are read there.
 pub record FiveFit (f : Five) : Type 0 where
@@ -128,3 +129,27 @@ module _ (b : List ℕ) (B : Bytes b) where
         ap (λ c. c .returns) q,
         ap (λ c. drop answerSize (c .answer)) q ∙ answer-kept (check b) a,
       )
+
+-- What a host reads after a call that has an output, whose outcome is of four-byte numbers.
+-- -----------------------------------------------------------------------------------------
+module _ (w : Outcome) (o a : List ℕ) (c : OutputCall) (e : c ≡ outputCall w o a) where
+  pub output-told : FiveFit (w .told) → answerSize ≤ length a
+      → (fiveIn (c .answer) ≡ w .told)
+      × (c .returns ≡ w .told .answer)
+      × (c .output ≡ front (w .writes) o)
+      × (drop answerSize (c .answer) ≡ drop answerSize a)
+  output-told F long =
+      let q = e ∙ output-filled w o a long in (
+        ap (λ c. fiveIn (c .answer)) q ∙ five-read (w .told) a F,
+        ap (λ c. c .returns) q,
+        ap (λ c. c .output) q,
+        ap (λ c. drop answerSize (c .answer)) q ∙ answer-kept (w .told) a,
+      )
+
+  -- the answer slice is too short, or it is not
+  pub short-or-long : ((c .returns ≡ 4) × (c .output ≡ o)) ⊎ (answerSize ≤ length a)
+  short-or-long = go (decLt (length a) answerSize)
+    where
+      go : Dec (length a < answerSize) → ((c .returns ≡ 4) × (c .output ≡ o)) ⊎ (answerSize ≤ length a)
+      go (yes h) = let q = e ∙ output-short w o a h in inl (ap (λ c. c .returns) q, ap (λ c. c .output) q)
+      go (no h) = inr (omega (arith, h))

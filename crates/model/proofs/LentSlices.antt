@@ -3,7 +3,7 @@
 use Prim.Native.Nat.{ℕ, zero, suc}
 use mathlib.Core.Path.{_≡_, refl}
 use mathlib.Core.List.{List, [], _∷_, _++_, map}
-use Rattle.model.specs.Calls.{numbers, written, CheckCall, checkCall, CarryCall, carryCall}
+use Rattle.model.specs.Calls.{numbers, written, CheckCall, checkCall, OutputCall, outputCall, carryCall}
 use Rattle.model.proofs.Worked.{file, computed, computedCarry}
 
 -- a slice of n bytes, no two of them alike: n, n - 1, .., 1
@@ -66,7 +66,7 @@ abbrev carried-told : List ℕ
 carried-told = 5 ∷ 0 ∷ 0 ∷ 0 ∷ 64 ∷ 0 ∷ 0 ∷ 0 ∷ 0 ∷ 0 ∷ 0 ∷ 0 ∷ 0 ∷ 0 ∷ 0 ∷ 0 ∷ 0 ∷ 0 ∷ 0 ∷ 0 ∷ []
 
 -- H', the output and the answer slice
-abbrev pub carriedOn : List ((ℕ × List ℕ × List ℕ) × CarryCall)
+abbrev pub carriedOn : List ((ℕ × List ℕ × List ℕ) × OutputCall)
 carriedOn =
     -- 19 bytes are too few: the output is not written either
     ((260, lent 64, lent 19), record { returns = 4; output = lent 64; answer = lent 19 })
@@ -79,5 +79,5 @@ carriedOn =
     ∷ []
 
 pub carries-leave : map (λ row. carryCall (carriable 1) (row .0 .0) (row .0 .1) (row .0 .2)) carriedOn ≡ map (λ row. row .1) carriedOn
-unfolding computedCarry numbers written carryCall
+unfolding computedCarry numbers written outputCall
 carries-leave = refl

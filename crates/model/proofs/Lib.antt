@@ -2,7 +2,9 @@ pub mod Jobs
 pub mod EightBytes
 pub mod Limits
 pub mod Reading
+pub mod Joined
 pub mod RoundTrip
+pub mod RecordBytes
 pub mod Prefix
 pub mod RuleTests
 pub mod Places
@@ -11,6 +13,7 @@ pub mod Verdict
 pub mod Refusals
 pub mod Demand1
 pub mod Calls
+pub mod Gates
 pub mod FiveFit
 pub mod Demand2
 pub mod Worked

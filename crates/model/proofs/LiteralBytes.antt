@@ -3,8 +3,7 @@
 use Prim.Native.Nat.{ℕ}
 use mathlib.Core.Path.{_≡_, refl}
 use mathlib.Core.List.{List, [], _∷_, _++_, map}
-use Rattle.model.specs.Answers.{five}
-use Rattle.model.specs.Carry.{Carried}
+use Rattle.model.specs.Answers.{five, Outcome}
 use Rattle.model.proofs.Worked.{Call, checks, carries, outcome, computedCarry, told, wrote}
 
 abbrev Four : Type 0
@@ -27,7 +26,7 @@ literal count H =
     ++ listed one ++ listed one ++ listed one ++ listed million ++ (0 ∷ 0 ∷ 0 ∷ 0 ∷ [])
     ++ (0 ∷ 0 ∷ 0 ∷ 0 ∷ [])
 
-abbrev pub table : List (Call × Carried)
+abbrev pub table : List (Call × Outcome)
 table =
     -- each byte of H
     (checks (literal (2, 0, 0, 0) one), told (five 0 0 0 0 0))

@@ -12,6 +12,7 @@ use Rattle.model.specs.declared.task.Task.{Task}
 use Rattle.model.specs.declared.record.Record.{Record}
 use Rattle.model.specs.Model.{Run, IsRecord, WithinLimits, TaskInRange, mostTasks, mostJobs, mostRecords, totalJobs, task, noTask, noRecord, rec}
 use Rattle.model.specs.File.{num, bytes4, bytesOf, taskNumbers, recordNumbers, FourBytes, RecordFits, joined, bytes, taskAt, recordAt, settingAt, entries, Read, whole, gate, runAt, readRecords, readTasks, read, tasksPlace, recordsPlace, has, taskSize, recordSize, sizeOf}
+use Rattle.model.proofs.Joined.{length-joined}
 use Rattle.model.proofs.Limits.{says-within, says-setting, tasks-fine}
 use Rattle.model.proofs.Reading.{gate-whole, gateTask-whole}
 
@@ -77,10 +78,6 @@ abbrev StandsAt : {A : Type 0} → (A → List ℕ) → ℕ → List ℕ → ℕ
 StandsAt f w b i x = (j k : ℕ) → k ≡ i + 4 * j → j < w → num b k ≡ getD (f x) j 0
 
 module _ {A : Type 0} (f : A → List ℕ) (w : ℕ) (even : (x : A) → length (f x) ≡ w) where
-  length-joined : (xs : List A) → length (joined f xs) ≡ w * length xs
-  length-joined [] = omega arith
-  length-joined (x ∷ xs) = omega (arith, length-append (f x) (joined f xs), even x, length-joined xs)
-
   module _ (vs : List ℕ) (F : Fits vs) where
     stands : (x : A) (rest : List ℕ) (p i : ℕ) → i ≡ 4 * p → drop p vs ≡ f x ++ rest → StandsAt f w (bytesOf vs) i x
     stands x rest p i e q j k c l =

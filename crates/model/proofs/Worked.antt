@@ -5,8 +5,8 @@ use mathlib.Core.List.{List, [], _∷_, _++_, map}
 use Rattle.base.specs.Find.{first, firstOf, count}
 use Rattle.model.specs.Model.{jobCount, due, rank, ready, existing}
 use Rattle.model.specs.File.{bytesOf, bytes, gate, gateTask, runAt, readRecords, readTasks, read}
-use Rattle.model.specs.Answers.{Five, five}
-use Rattle.model.specs.Carry.{Carried, opening, atInstant, atEachInstant, carried, gateCarry, carriedFile, carryRun, carry}
+use Rattle.model.specs.Answers.{Five, five, Outcome, gateOutcome, writtenOut}
+use Rattle.model.specs.Carry.{opening, atInstant, atEachInstant, carried, carryRun, carry}
 use Rattle.model.specs.Compute.Limits.{settingInRange, taskInRange, badTask}
 use Rattle.model.specs.Compute.Places.{find, lowest}
 use Rattle.model.specs.Compute.Verdict.{lateCount, timely, verdict, check}
@@ -22,19 +22,19 @@ unfolding first firstOf count jobCount due rank ready existing gate gateTask run
 computed b = check b
 
 -- the carry, likewise
-unfoldable pub computedCarry : List ℕ → ℕ → ℕ → Carried
-unfolding computed bytes opening atInstant atEachInstant carried gateCarry carriedFile carryRun carry
+unfoldable pub computedCarry : List ℕ → ℕ → ℕ → Outcome
+unfolding computed bytes opening atInstant atEachInstant carried gateOutcome writtenOut carryRun carry
 computedCarry b H′ room = carry b H′ room
 
-abbrev pub outcome : Call → Carried
+abbrev pub outcome : Call → Outcome
 outcome (checks b) = record { told = check b; writes = [] }
 outcome (carries b H′ room) = carry b H′ room
 
-abbrev pub told : Five → Carried
+abbrev pub told : Five → Outcome
 told f = record { told = f; writes = [] }
 
 -- carried: so many bytes, and these
-abbrev pub wrote : ℕ → List ℕ → Carried
+abbrev pub wrote : ℕ → List ℕ → Outcome
 wrote n b = record { told = five 5 n 0 0 0; writes = b }
 
 -- A file: the setting's count and numbers, the tasks' count and numbers, the records' count and numbers.
@@ -126,7 +126,7 @@ C7 =
 abbrev C11 : List ℕ
 C11 = file 1 1 (1 ∷ 1 ∷ 1 ∷ 1 ∷ 1 ∷ 0 ∷ []) (0 ∷ [])
 
-abbrev pub table : List (Call × Carried)
+abbrev pub table : List (Call × Outcome)
 table =
     (checks C1, told (five 1 1 0 0 0))
     ∷ (checks C2, told (five 2 1 0 0 0))

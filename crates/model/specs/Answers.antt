@@ -2,11 +2,12 @@
 use Prim.Native.Nat.{ℕ, zero, suc, _+_, _≤_, _<_}
 use mathlib.Core.Path.{_≡_}
 use mathlib.Core.Logic.{_⊎_}
-use mathlib.Core.List.{List}
+use mathlib.Core.Bool.{Bool, true, false}
+use mathlib.Core.List.{List, []}
 use lib.ListN.{length}
 use Rattle.base.specs.First.{First, Number}
 use Rattle.model.specs.declared.answer.Answer.{Answer}
-use Rattle.model.specs.declared.answer.Answer.the-variants.{InTime, LateBeforeH, LateFromH, RuleBroken, Refused, Carried}
+use Rattle.model.specs.declared.answer.Answer.the-variants.{InTime, LateBeforeH, LateFromH, RuleBroken, Refused, Written}
 use Rattle.model.specs.Model.{Run, IsRecord, rec, due}
 use Rattle.model.specs.File.{refused, whole, read}
 use Rattle.model.specs.Rules.{Rule, rule1, rule2, rule3, rule4, rule5, rule6, rule7, rule8, Holds, Obeys, Place, FirstPlace}
@@ -22,7 +23,7 @@ abbrev pub five : ℕ → ℕ → ℕ → ℕ → ℕ → Five
 five a c x y z = record { answer = a; code = c; place = record { x = x; y = y; z = z } }
 
 -- The table: 0 accepted, no job late; 1 accepted, some late job begins before H; 2 accepted, late jobs exist, none begins before
--- H; 3 a rule is broken; 4 refused; 5 carried.
+-- H; 3 a rule is broken; 4 refused; 5 carried, or what a tool added later writes is written.
 abbrev pub inTime : Five
 inTime = five 0 0 0 0 0
 
@@ -38,8 +39,8 @@ ruleBroken ν p = record { answer = 3; code = ν; place = p }
 abbrev pub refusal : ℕ → ℕ → Five
 refusal ν i = five 4 ν i 0 0
 
-abbrev pub carriedTo : ℕ → Five
-carriedTo n = five 5 n 0 0 0
+abbrev pub bytesWritten : ℕ → Five
+bytesWritten n = five 5 n 0 0 0
 
 -- An answer of the program is an enum: the paper's five numbers for each of its cases.
 abbrev pub fiveOf : Answer → Five
@@ -48,7 +49,25 @@ fiveOf (LateBeforeH n k) = lateBeforeH n k
 fiveOf (LateFromH n k) = lateFromH n k
 fiveOf (RuleBroken ν x y z) = ruleBroken ν (record { x = x; y = y; z = z })
 fiveOf (Refused ν i) = refusal ν i
-fiveOf (Carried n) = carriedTo n
+fiveOf (Written n) = bytesWritten n
+
+-- What a tool that writes says, and what it writes to the front of its output: a refusal writes nothing.
+-- ------------------------------------------------------------------------------------------------------
+pub record Outcome : Type 0 where
+  pub told : Five
+  pub writes : List ℕ
+
+abbrev pub refusedWith : ℕ → ℕ → Outcome
+refusedWith ν i = record { told = refusal ν i; writes = [] }
+
+-- refused with a number, unless the test passes
+unfoldable pub gateOutcome : ℕ → Bool → Outcome → Outcome
+gateOutcome ν true o = o
+gateOutcome ν false o = refusedWith ν 0
+
+-- all of this is written, and its bytes are counted
+unfoldable pub writtenOut : List ℕ → Outcome
+writtenOut out = record { told = bytesWritten (length out); writes = out }
 
 -- What each row is given for.
 -- ---------------------------
@@ -108,4 +127,4 @@ pub data Row : Five → Type 0 where
 
 pub data CarryRow : Five → Type 0 where
   carry4 : {ν i : ℕ} → Listed 11 ν i → CarryRow (refusal ν i)
-  carry5 : (n : ℕ) → CarryRow (carriedTo n)
+  carry5 : (n : ℕ) → CarryRow (bytesWritten n)

@@ -1,13 +1,14 @@
 -- Document 01, "What the checker says": the host calls check and carry with byte slices. What a call returns, and the full
 -- contents of every lent slice afterwards.
 use Prim.Native.Nat.{ℕ}
+use mathlib.Core.Path.{_≡_}
 use mathlib.Core.Bool.{Bool, true, false}
 use mathlib.Core.List.{List, [], _∷_, _++_}
 use lib.Dec.{ltb}
 use lib.ListN.{length, take, drop}
 use Rattle.model.specs.File.{num, bytesOf}
-use Rattle.model.specs.Answers.{Five, five}
-use Rattle.model.specs.Carry.{Carried, carry}
+use Rattle.model.specs.Answers.{Five, five, Outcome}
+use Rattle.model.specs.Carry.{carry}
 use Rattle.model.specs.Compute.Verdict.{check}
 
 -- Each call returns the answer number and writes the five numbers into the first 20 bytes of a lent answer slice.
@@ -39,19 +40,28 @@ checkCallIf false f answer = record { returns = f .answer; answer = written f an
 unfoldable pub checkCall : List ℕ → List ℕ → CheckCall
 checkCall file answer = checkCallIf (tooShort answer) (check file) answer
 
-pub record CarryCall : Type 0 where
+-- what a tool says and leaves in an output is this outcome
+abbrev pub Leaves : Outcome → List ℕ → Five → List ℕ → Type 0
+Leaves o output f after = (f ≡ o .told) × (after ≡ front (o .writes) output)
+
+-- a call that has an output, too
+pub record OutputCall : Type 0 where
   pub returns : ℕ
   pub output : List ℕ
   pub answer : List ℕ
 
 -- Every other refusal fills those 20 bytes and changes no other byte: it writes nothing to the output.
-abbrev pub carryCallIf : Bool → Carried → List ℕ → List ℕ → CarryCall
-carryCallIf true o output answer = record { returns = 4; output = output; answer = answer }
-carryCallIf false o output answer =
+abbrev pub outputCallIf : Bool → Outcome → List ℕ → List ℕ → OutputCall
+outputCallIf true o output answer = record { returns = 4; output = output; answer = answer }
+outputCallIf false o output answer =
     record { returns = o .told .answer; output = front (o .writes) output; answer = written (o .told) answer }
 
-unfoldable pub carryCall : List ℕ → ℕ → List ℕ → List ℕ → CarryCall
-carryCall file H′ output answer = carryCallIf (tooShort answer) (carry file H′ (length output)) output answer
+-- what a call returns and leaves where this is its outcome
+unfoldable pub outputCall : Outcome → List ℕ → List ℕ → OutputCall
+outputCall o output answer = outputCallIf (tooShort answer) o output answer
+
+abbrev pub carryCall : List ℕ → ℕ → List ℕ → List ℕ → OutputCall
+carryCall file H′ output answer = outputCall (carry file H′ (length output)) output answer
 
 -- What a host reads after a call: the five numbers of an answer slice, and the file at the front of an output, as many bytes as the code
 -- in the answer slice says.

@@ -9,7 +9,7 @@ use Rattle.base.specs.Find.{first, found}
 use Rattle.model.specs.declared.record.Record.{Record}
 use Rattle.model.specs.Model.{Run, Job, mostHorizon, mostJobs, totalJobs, arrival, existing, jobOf, task, taskOf, rec, rank, ready}
 use Rattle.model.specs.File.{Read, refused, whole, read, bytes, Part, emptyPart, recordPart}
-use Rattle.model.specs.Answers.{Five, refusal, carriedTo}
+use Rattle.model.specs.Answers.{Outcome, refusedWith, gateOutcome, writtenOut}
 use Rattle.model.specs.Compute.Places.{size, sameJob, idleCore}
 use Rattle.model.specs.Compute.Verdict.{verdict}
 
@@ -118,36 +118,24 @@ instantsFrom H = 2 ^ 32 - H
 unfoldable pub carried : Run → ℕ → Run
 carried ρ H′ = atEachInstant (instantsFrom (ρ .setting .horizon)) (ρ .setting .horizon) (opening ρ H′)
 
--- What a carry says and writes. The file's own refusals; 9 H' below H or above 1,000,000; 6 more than 512 jobs at H'; 10 the run
--- to be carried breaks a rule; 11 the output is too short.
--- ------------------------------------------------------------------------------------------------------------------------------
-pub record Carried : Type 0 where
-  pub told : Five
-  pub writes : List ℕ
-
-unfoldable pub gateCarry : ℕ → Bool → Carried → Carried
-gateCarry ν true o = o
-gateCarry ν false o = record { told = refusal ν 0; writes = [] }
-
--- The output is a whole run file with H' in place of H.
-unfoldable pub carriedFile : List ℕ → Carried
-carriedFile out = record { told = carriedTo (length out); writes = out }
-
-unfoldable pub carryRun : Run → ℕ → ℕ → Carried
+-- What a carry says and writes: a whole run file with H' in place of H. The file's own refusals; 9 H' below H or above 1,000,000; 6 more
+-- than 512 jobs at H'; 10 the run to be carried breaks a rule; 11 the output is too short.
+-- --------------------------------------------------------------------------------------------------------------------------------------
+unfoldable pub carryRun : Run → ℕ → ℕ → Outcome
 carryRun ρ H′ room =
     let out = bytes (carried ρ H′) in
-    gateCarry 9 (leb (ρ .setting .horizon) H′ && leb H′ mostHorizon)
-    (gateCarry 6 (leb (totalJobs (ρ .tasks) H′) mostJobs)
-    (gateCarry 10 (leb (verdict ρ .answer) 2)
-    (gateCarry 11 (leb (length out) room)
-    (carriedFile out))))
+    gateOutcome 9 (leb (ρ .setting .horizon) H′ && leb H′ mostHorizon)
+    (gateOutcome 6 (leb (totalJobs (ρ .tasks) H′) mostJobs)
+    (gateOutcome 10 (leb (verdict ρ .answer) 2)
+    (gateOutcome 11 (leb (length out) room)
+    (writtenOut out))))
 
-abbrev pub carryOf : Read → ℕ → ℕ → Carried
-carryOf (refused ν i) H′ room = record { told = refusal ν i; writes = [] }
+abbrev pub carryOf : Read → ℕ → ℕ → Outcome
+carryOf (refused ν i) H′ room = refusedWith ν i
 carryOf (whole ρ) H′ room = carryRun ρ H′ room
 
 -- of a file, carried to H', where the output has room for so many bytes
-unfoldable pub carry : List ℕ → ℕ → ℕ → Carried
+unfoldable pub carry : List ℕ → ℕ → ℕ → Outcome
 carry b H′ room = carryOf (read b) H′ room
 
 -- A job, named by task and job number, can be shown from its source.

@@ -25,11 +25,15 @@ decimalIn (suc n) v = elim (ltb v 10) [ true ↦ digit v ∷ [] | false ↦ deci
 abbrev pub decimal : ℕ → List ℕ
 decimal v = decimalIn 10 v
 
+-- numbers separated by one byte each, then a line feed
+abbrev pub lineBy : ℕ → List ℕ → List ℕ
+lineBy c [] = 10 ∷ []
+lineBy c (v ∷ []) = decimal v ++ (10 ∷ [])
+lineBy c (v ∷ u ∷ vs) = decimal v ++ (c ∷ lineBy c (u ∷ vs))
+
 -- numbers separated by one space, then a line feed
 abbrev pub line : List ℕ → List ℕ
-line [] = 10 ∷ []
-line (v ∷ []) = decimal v ++ (10 ∷ [])
-line (v ∷ u ∷ vs) = decimal v ++ (32 ∷ line (u ∷ vs))
+line vs = lineBy 32 vs
 
 -- what is printed when these bytes are read
 unfoldable pub report : List ℕ → List ℕ

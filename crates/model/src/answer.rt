@@ -7,8 +7,8 @@ pub enum Answer {
     LateFromH(u32, u32),
     // the rule, and the place
     RuleBroken(u32, u32, u32, u32),
-    // the refusal's number, and the task for 5
+    // the refusal's number, and the task for 5 or the line for 12 and 13
     Refused(u32, u32),
     // the bytes written
-    Carried(u32),
+    Written(u32),
 }

@@ -67,7 +67,7 @@ pub fn numbers_of(a: Answer) -> Numbers
             y: 0,
             z: 0,
         },
-        Answer::Carried(bytes) => Numbers {
+        Answer::Written(bytes) => Numbers {
             answer: 5,
             code: bytes,
             x: 0,

@@ -10,6 +10,7 @@ use Rattle.model.specs.declared.task.Task.{Task}
 use Rattle.model.specs.Model.{Run, mostTasks, task, rec, noTask, noRecord}
 use Rattle.model.specs.File.{bytes, bytesOf, joined, settingNumbers, taskNumbers, recordNumbers}
 use Rattle.model.specs.Calls.{front}
+use Rattle.model.proofs.Joined.{joined-append}
 use Rattle.openfile.specs.declared.head.Head.{Head}
 use Rattle.table.specs.Table.{recorded, numberAt}
 use Rattle.wire.specs.Put.{put}
@@ -63,10 +64,6 @@ pub rows-more : (row : ℕ → List ℕ) (n : ℕ) {s t u vs : List ℕ} {i j j�
     → Wrote s i (rows row n) t j → Wrote t j′ vs u k → j′ ≡ j → vs ≡ row n → k ≡ l → Wrote s i (rows row (n + 1)) u l
 unfolding rows
 rows-more row n w v p e q = rw (add-one n, ← q, ← e) (wrote-more w (rw p at v))
-
-joined-append : {A : Type 0} (f : A → List ℕ) (xs ys : List A) → joined f (xs ++ ys) ≡ joined f xs ++ joined f ys
-joined-append f [] ys = refl
-joined-append f (x ∷ xs) ys = ap (λ l. f x ++ l) (joined-append f xs ys) ∙ sym (append-assoc (f x) (joined f xs) (joined f ys))
 
 -- rows that are the numbers of the entries of a list
 module _ {A : Type 0} (f : A → List ℕ) (d : A) (row : ℕ → List ℕ) (xs : List A) (is : (k : ℕ) → k < length xs → row k ≡ f (getD xs k d)) where
