@@ -1,4 +1,3 @@
 pub mod Paste
 pub mod Lined
-pub mod Decimal
 pub mod Once

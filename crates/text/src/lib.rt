@@ -1,4 +1,4 @@
-// The five numbers of an answer as a line of text.
+// Text written into a slice: bytes, numbers, and the five numbers of an answer as a line.
 use model::Answer;
 use wire::Numbers;
 use wire::numbers_of;
@@ -27,6 +27,19 @@ fn put_byte(text: &mut [u8], at: usize, byte: u8) -> usize
     at + 1
 }
 
+// Writes bytes from a place on: the place after them.
+pub fn put_bytes(text: &mut [u8], at: usize, bytes: &[u8]) -> usize
+    requires { ⌜ at + length (now bytes) ≤ length (now text) ⌝ }
+    ensures { λ r. ⌜ Wrote (now (text .entry)) at (now (bytes .entry)) (now (text .exit)) r ⌝ }
+{
+    let mut k = 0;
+    while k < bytes.len() {
+        text[at + k] = bytes[k];
+        k += 1;
+    }
+    at + k
+}
+
 // Writes a number's decimal digits from a place on: the place after them.
 fn put_decimal(text: &mut [u8], at: usize, v: u32) -> usize
     requires { ⌜ at + length (decimal v) ≤ length (now text) ⌝ }
@@ -40,9 +53,9 @@ fn put_decimal(text: &mut [u8], at: usize, v: u32) -> usize
 }
 
 // Writes a number and a byte after it: the place after both.
-fn put_number(text: &mut [u8], at: usize, v: u32, byte: u8) -> usize
-    requires { ⌜ at + 11 ≤ length (now text) ⌝ }
-    ensures { λ r. ⌜ Wrote (now (text .entry)) at (decimal v ++ (byte ∷ [])) (now (text .exit)) r × (r ≤ at + 11) ⌝ }
+pub fn put_number(text: &mut [u8], at: usize, v: u32, byte: u8) -> usize
+    requires { ⌜ at + length (decimal v) + 1 ≤ length (now text) ⌝ }
+    ensures { λ r. ⌜ Wrote (now (text .entry)) at (decimal v ++ (byte ∷ [])) (now (text .exit)) r ⌝ }
 {
     let next = put_decimal(text, at, v);
     put_byte(text, next, byte)

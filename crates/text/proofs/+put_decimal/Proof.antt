@@ -5,7 +5,7 @@ use native.Mathlib.Omega.{arith}
 use borrow.Fn.Kinds.{In}
 use borrow.Fn.PlainCycle.{Measures, is, falls, and}
 use Rattle.text.proofs.Paste.{wrote-more}
-use Rattle.text.proofs.Decimal.{decimal-small, decimal-more, length-small, length-more}
+use Rattle.decimal.proofs.Decimal.{decimal-small, decimal-more, length-small, length-more}
 use Rattle.text.proofs.put_decimal.Reads as put-decimal
 use Rattle.text.proofs.put_decimal.Kinds.{ps}
 use Rattle.text.proofs.+put_decimal.Lts-put_decimal as lts

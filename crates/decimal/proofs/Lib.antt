@@ -1,0 +1,4 @@
+pub mod Decimal
+pub mod DigitByDigit
+pub mod NumberFirst
+pub mod Once
