@@ -23,14 +23,14 @@ use Rattle.model.specs.Carry.{carried, carry}
 use Rattle.model.specs.Calls.{answerSize, front, fiveIn, fileIn, checkCall, carryCall}
 use Rattle.model.specs.Widen.{Wider, withTasks}
 use Rattle.model.specs.Compute.Verdict.{verdict, check}
-use Rattle.model.proofs.Calls.{check-short, carry-short, rest-kept}
-use Rattle.model.proofs.FiveFit.{check-told}
+use Rattle.model.proofs.Calls.{check-short, output-short, rest-kept}
+use Rattle.model.proofs.FiveFit.{check-told, short-or-long}
 use Rattle.model.proofs.Refusals.{check-refuses, judged, accepted-reads}
 use Rattle.model.proofs.Verdict.{verdict-iff}
 use Rattle.model.proofs.Demand1.{every-file-answered}
 use Rattle.model.proofs.Demand2.{accepted-exactly-if-obeyed, lowest-broken-rule-named, broken-rule-named, late-jobs-counted}
 use Rattle.carrytheory.proofs.CarryRefusals.{carry-refuses, every-carry-answered}
-use Rattle.carrytheory.proofs.CarryForHost.{Carriable, carriable, refused-writes-nothing, carries-exactly, carried-out, carry-told, short-or-long, file-accepted, file-keeps, file-late, file-shows}
+use Rattle.carrytheory.proofs.CarryForHost.{Carriable, carriable, refused-writes-nothing, carries-exactly, carried-out, carry-told, file-accepted, file-keeps, file-late, file-shows}
 use Rattle.carrytheory.proofs.WidenedRun.{widened-same-late}
 use Rattle.carrytheory.proofs.WidenedFile.{widened-file}
 use Rattle.octalmure.proofs.check.octalmure_check.Kinds as check-kinds
@@ -122,12 +122,12 @@ module _ {b a a′ : List ℕ} {r : ℕ} (C : Checks b a r a′) where
 module _ {b o a o′ a′ : List ℕ} {H′ r : ℕ} (C : Carries b H′ o a r o′ a′) where
   pub carry-met-short : length a < answerSize → (r ≡ 4) × (o′ ≡ o) × (a′ ≡ a)
   carry-met-short h =
-      let e = is-carry C ∙ carry-short b H′ o a h in
+      let e = is-carry C ∙ output-short (carry b H′ (length o)) o a h in
       (ap (λ c. c .returns) e, ap (λ c. c .output) e, ap (λ c. c .answer) e)
 
   -- An answer other than 5 is 4, and no byte of the output changes.
   pub carry-refused-keeps : ¬ (r ≡ 5) → (r ≡ 4) × (o′ ≡ o)
-  carry-refused-keeps other = ⊎-elim (λ h. h) refused (short-or-long b H′ o a _ (is-carry C))
+  carry-refused-keeps other = ⊎-elim (λ h. h) refused (short-or-long (carry b H′ (length o)) o a _ (is-carry C))
     where
       refused : answerSize ≤ length a → (r ≡ 4) × (o′ ≡ o)
       refused long =
@@ -178,7 +178,7 @@ module _ {b o a o′ a′ : List ℕ} {H′ r : ℕ} (C : Carries b H′ o a r o
 
   module _ (five : r ≡ 5) where
     long : answerSize ≤ length a
-    long = ⊎-elim (λ h. absurd (omega (arith, h .0))) (λ h. h) (short-or-long b H′ o a _ (is-carry C))
+    long = ⊎-elim (λ h. absurd (omega (arith, h .0))) (λ h. h) (short-or-long (carry b H′ (length o)) o a _ (is-carry C))
 
     no-fault : NoFault (askedOfBoth b H′ (length o))
     no-fault = carry-carries-exactly long .0 five

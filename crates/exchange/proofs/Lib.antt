@@ -1,0 +1,9 @@
+pub mod LineLaws
+pub mod TableLaws
+pub mod TakenOrRefused
+pub mod ImportedRun
+pub mod ExportedLines
+pub mod ThereAndBack
+pub mod SaysExactly
+pub mod ExchangeAnswers
+pub mod Once

@@ -1,0 +1,5 @@
+pub mod LineBytes
+pub mod InStartOrder
+pub mod RisesOrStays
+pub mod EachOutcome
+pub mod Once

@@ -1,0 +1,3 @@
+pub mod InRows
+pub mod WaysOfImport
+pub mod Once

@@ -1,0 +1,34 @@
+-- Six numbers, one after the other. Assumes nothing.
+use mathlib.Core.Path.{refl}
+use borrow.Author.Needs.{needs}
+use Rattle.importfile.specs.Importable.{rowOf}
+use Rattle.importfile.proofs.rows.row_of.Statement.{statement}
+use Rattle.importfile.proofs.rows.row_of.Tie as tie
+
+returns : tie.Need-returns
+unfolding rowOf
+returns c = refl
+
+pub row-of-spec : {M : Type 1} → statement M
+row-of-spec =
+    tie.close
+    (tie.spec
+    (λ c. search needs)
+    (λ c. search needs)
+    (λ c. search needs)
+    (λ c. search needs)
+    (λ c. search needs)
+    (λ c. search needs)
+    (λ c. search needs)
+    (λ c. search needs)
+    (λ c. search needs)
+    (λ c. search needs)
+    (λ c. search needs)
+    (λ c. search needs)
+    (λ c. search needs)
+    (λ c. search needs)
+    (λ c. search needs)
+    (λ c. search needs)
+    (λ c. search needs)
+    (λ c. search needs)
+    returns)

@@ -1,0 +1,2 @@
+pub mod LeftByImport
+pub mod Importable

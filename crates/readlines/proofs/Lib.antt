@@ -1,0 +1,4 @@
+pub mod SixNumbers
+pub mod SideBySide
+pub mod LineByLine
+pub mod Once
