@@ -1,14 +1,19 @@
-/* harness SEED COUNT [PATH]         holds the library to the oracle on COUNT cases; PATH gets the first file they differ on
-   harness --self SEED COUNT [PATH]  holds the oracle to itself, to the laws of the slices and to a word by word reading
-   Both try the worked runs of the paper and the long files of the seed too. */
+/* harness SEED COUNT [PATH]         holds the library to the oracle on COUNT files and as many tables; PATH gets the first file
+   that they differ on, PATH.table the first table, and PATH.file the file that was given with it harness --self SEED COUNT [PATH]
+   holds the oracle to itself, to the laws of the slices and to a word by word reading Both try the worked runs of the paper, the
+   tables written by hand, and the long files and tables of the seed too. */
 #include <inttypes.h>
 #include <stdbool.h>
 #include <stdio.h>
 #include <stdlib.h>
 #include <string.h>
 
+#include "call.h"
 #include "cases.h"
 #include "entries.h"
+#include "exchange.h"
+#include "handmade.h"
+#include "inout.h"
 #include "literal.h"
 #include "long.h"
 #include "oracle.h"
@@ -19,143 +24,13 @@
 extern uint32_t octalmure_check(const uint8_t *file, size_t file_length, uint8_t *answer, size_t answer_length);
 extern uint32_t octalmure_carry(const uint8_t *file, size_t file_length, uint32_t horizon, uint8_t *output, size_t output_length,
                                 uint8_t *answer, size_t answer_length);
+extern uint32_t octalmure_import(const uint8_t *file, size_t file_length, const uint8_t *table, size_t table_length,
+                                 uint8_t *output, size_t output_length, uint8_t *answer, size_t answer_length);
+extern uint32_t octalmure_export(const uint8_t *file, size_t file_length, uint8_t *output, size_t output_length, uint8_t *answer,
+                                 size_t answer_length);
 #endif
 
-enum { CANARY = 32, ALIGNMENTS = 8, ANSWER_BYTES = 20, REFUSED = 4, CARRIED = 5, MOST_REPORTS = 20, ENOUGH_CASES = 50000 };
-
-/* ---- lent slices ---- */
-
-enum { MOST_LENT_BYTES = CANARY + ALIGNMENTS + MOST_LONG_BYTES + CANARY };
-
-/* A slice with canary bytes in front of it and behind. The front varies, so that slices stand at all alignments. */
-typedef struct {
-    uint8_t memory[MOST_LENT_BYTES];
-    size_t front, length;
-} Lent;
-
-/* What stands in memory that was not written to; it is told only as far as some slice went. */
-static const uint8_t *pattern(size_t count) {
-    static uint8_t bytes[MOST_LENT_BYTES];
-    static size_t told;
-    for (; told < count; told++) {
-        bytes[told] = (uint8_t)(0xA5 ^ told * 37 ^ told >> 8);
-    }
-    return bytes;
-}
-
-static uint8_t *slice(Lent *lent) {
-    return lent->memory + lent->front;
-}
-
-static size_t all_of(const Lent *lent) {
-    return lent->front + lent->length + CANARY;
-}
-
-/* Contents may be NULL: then the slice, too, has the pattern, and it shows which bytes were written. */
-static void lend(Lent *lent, size_t alignment, size_t length, const uint8_t *contents) {
-    lent->front = CANARY + alignment % ALIGNMENTS;
-    lent->length = length;
-    size_t all = all_of(lent), back = lent->front + length;
-    if (contents == NULL) {
-        memcpy(lent->memory, pattern(all), all);
-        return;
-    }
-    memcpy(lent->memory, pattern(all), lent->front);
-    memcpy(slice(lent), contents, length);
-    memcpy(lent->memory + back, pattern(all) + back, all - back);
-}
-
-static bool patterned(const Lent *lent, size_t from, size_t to) {
-    return from >= to || memcmp(lent->memory + from, pattern(to) + from, to - from) == 0;
-}
-
-static bool canaries_whole(const Lent *lent) {
-    return patterned(lent, 0, lent->front) && patterned(lent, lent->front + lent->length, all_of(lent));
-}
-
-/* Whether the slice and what is around it have their pattern, but for its first bytes. */
-static bool changed_only(const Lent *lent, size_t first) {
-    return patterned(lent, 0, lent->front) && patterned(lent, lent->front + first, all_of(lent));
-}
-
-static bool same_bytes(const Lent *a, const Lent *b) {
-    return all_of(a) == all_of(b) && memcmp(a->memory, b->memory, all_of(a)) == 0;
-}
-
-/* ---- one call ---- */
-
-typedef struct {
-    Lent file, output, answer;
-    uint32_t returned, numbers[5];
-    bool answered; /* the answer slice was long enough */
-} Call;
-
-static uint32_t number_at(const uint8_t *bytes) {
-    return (uint32_t)bytes[0] | (uint32_t)bytes[1] << 8 | (uint32_t)bytes[2] << 16 | (uint32_t)bytes[3] << 24;
-}
-
-static void lend_all(Call *call, const uint8_t *file, size_t length, size_t output_length, size_t answer_length) {
-    lend(&call->file, length, length, file);
-    lend(&call->output, length + 3, output_length, NULL);
-    lend(&call->answer, length + 5, answer_length, NULL);
-}
-
-static void note_answer(Call *call, uint32_t returned) {
-    call->returned = returned;
-    call->answered = call->answer.length >= ANSWER_BYTES;
-    for (size_t i = 0; i < 5; i++) {
-        call->numbers[i] = call->answered ? number_at(slice(&call->answer) + 4 * i) : 0;
-    }
-}
-
-static void call_check(const Subject *subject, const uint8_t *file, size_t length, size_t answer_length, Call *call) {
-    lend_all(call, file, length, 0, answer_length);
-    note_answer(call, subject->check(slice(&call->file), length, slice(&call->answer), answer_length));
-}
-
-static void call_carry(const Subject *subject, const uint8_t *file, const Case *made, Call *call) {
-    lend_all(call, file, made->length, made->output_length, made->carry_answer_length);
-    note_answer(call, subject->carry(slice(&call->file), made->length, made->horizon, slice(&call->output), made->output_length,
-                                     slice(&call->answer), made->carry_answer_length));
-}
-
-/* What holds of every call, whatever the answer. Returns what is wrong, or NULL. */
-static const char *broken_law(Call *call, const uint8_t *file) {
-    uint32_t written = call->answered && call->returned == CARRIED ? call->numbers[1] : 0;
-    if (!canaries_whole(&call->file) || memcmp(slice(&call->file), file, call->file.length) != 0) {
-        return "the file slice or what is around it changed";
-    }
-    if (!call->answered && call->returned != REFUSED) {
-        return "a short answer slice and not answer 4";
-    }
-    if (!changed_only(&call->answer, call->answered ? ANSWER_BYTES : 0)) {
-        return "bytes of the answer slice, or around it, that must not change";
-    }
-    if (call->answered && call->returned != call->numbers[0]) {
-        return "the number returned is not the first of the answer";
-    }
-    if (written > call->output.length || !changed_only(&call->output, written)) {
-        return "bytes of the output, or around it, that must not change";
-    }
-    return NULL;
-}
-
-static const char *difference(const Call *subject, const Call *oracle) {
-    if (subject->returned != oracle->returned) {
-        return "the number returned differs";
-    }
-    if (!same_bytes(&subject->answer, &oracle->answer)) {
-        return "the answer slices differ";
-    }
-    if (!same_bytes(&subject->output, &oracle->output)) {
-        return "the outputs differ";
-    }
-    return same_bytes(&subject->file, &oracle->file) ? NULL : "the file slices differ";
-}
-
-static const char *first_of(const char *a, const char *b) {
-    return a != NULL ? a : b;
-}
+enum { REFUSED = 4, CARRIED = 5, MOST_REPORTS = 20, ENOUGH_CASES = 50000 };
 
 /* ---- what was met ---- */
 
@@ -190,7 +65,7 @@ static void print_met(const char *name, const Met *met) {
     printf("%s\n", name);
     print_counts("answers", met->answers, 0, 5);
     print_counts("rules", met->rules, 1, RULES);
-    print_counts("refusals", met->refusals, 1, REFUSALS);
+    print_counts("refusals", met->refusals, 1, CARRY_REFUSALS);
     printf("  short answer slices %" PRIu64 "\n", met->short_slices);
 }
 
@@ -208,7 +83,7 @@ static uint64_t never_met(const char *what, const uint64_t *check, const uint64_
 static uint64_t never_met_at_all(const Tally *tally) {
     const Met *check = &tally->check, *carry = &tally->carry;
     return never_met("answer", check->answers, carry->answers, 0, 5) + never_met("rule", check->rules, carry->rules, 1, RULES) +
-           never_met("refusal", check->refusals, carry->refusals, 1, REFUSALS);
+           never_met("refusal", check->refusals, carry->refusals, 1, CARRY_REFUSALS);
 }
 
 /* ---- the trial of a case ---- */
@@ -225,26 +100,7 @@ typedef struct {
     Call subject_call, oracle_call;
 } Trial;
 
-static const Subject the_oracle = {"oracle", oracle_check, oracle_carry};
-
-static void print_call(const char *name, const Call *call) {
-    printf("  %-8s returned %" PRIu32, name, call->returned);
-    if (call->answered) {
-        const uint32_t *n = call->numbers;
-        printf(": %" PRIu32 " %" PRIu32 " %" PRIu32 " %" PRIu32 " %" PRIu32, n[0], n[1], n[2], n[3], n[4]);
-    }
-    printf("\n");
-}
-
-static void write_to(const char *path, const uint8_t *bytes, size_t length) {
-    FILE *out = fopen(path, "wb");
-    if (out == NULL || fwrite(bytes, 1, length, out) != length) {
-        printf("  the file could not be written to %s\n", path);
-    }
-    if (out != NULL) {
-        fclose(out);
-    }
-}
+static const Subject the_oracle = {"oracle", oracle_check, oracle_carry, oracle_import, oracle_export};
 
 /* Reports the first few in full; the file of the first stays at the path. */
 static void report(Trial *trial, uint64_t number, const char *call, const char *wrong) {
@@ -260,14 +116,12 @@ static void report(Trial *trial, uint64_t number, const char *call, const char *
     print_call(trial->subject->name, &trial->subject_call);
     print_call(the_oracle.name, &trial->oracle_call);
     if (trial->reports == 1 && trial->path != NULL) {
-        write_to(trial->path, trial->file, made->length);
+        leave_at(trial->path, trial->file, made->length);
     }
 }
 
-/* Compares the two calls just made over the file. */
-static const char *judge_calls(Trial *trial, const uint8_t *file) {
-    Call *subject = &trial->subject_call, *oracle = &trial->oracle_call;
-    return first_of(first_of(broken_law(oracle, file), broken_law(subject, file)), difference(subject, oracle));
+static Bytes file_of(const Trial *trial) {
+    return (Bytes){trial->file, trial->made.length};
 }
 
 /* The oracle said that rule 8 is broken there, or that no rule is. */
@@ -286,30 +140,31 @@ static const char *judge_idling(Trial *trial) {
 
 static const char *try_check(Trial *trial) {
     const Case *made = &trial->made;
-    call_check(trial->subject, trial->file, made->length, made->check_answer_length, &trial->subject_call);
-    call_check(&the_oracle, trial->file, made->length, made->check_answer_length, &trial->oracle_call);
+    call_check(trial->subject, file_of(trial), made->check_answer_length, &trial->subject_call);
+    call_check(&the_oracle, file_of(trial), made->check_answer_length, &trial->oracle_call);
     meet(&trial->tally.check, &trial->oracle_call);
     if (made->permitted && trial->oracle_call.answered && trial->oracle_call.returned > 2) {
         return "the run of a server without a fault is not accepted";
     }
-    return first_of(judge_calls(trial, trial->file), judge_idling(trial));
+    return first_of(judge_calls(&trial->subject_call, &trial->oracle_call), judge_idling(trial));
 }
 
 static const char *try_carry(Trial *trial) {
     const Case *made = &trial->made;
-    call_carry(trial->subject, trial->file, made, &trial->subject_call);
-    call_carry(&the_oracle, trial->file, made, &trial->oracle_call);
+    size_t room = made->output_length, answer_length = made->carry_answer_length;
+    call_carry(trial->subject, file_of(trial), made->horizon, room, answer_length, &trial->subject_call);
+    call_carry(&the_oracle, file_of(trial), made->horizon, room, answer_length, &trial->oracle_call);
     meet(&trial->tally.carry, &trial->oracle_call);
-    return judge_calls(trial, trial->file);
+    return judge_calls(&trial->subject_call, &trial->oracle_call);
 }
 
 /* The outputs are known to be the same file: both checkers must accept it. */
 static const char *try_carried_file(Trial *trial) {
     uint8_t carried[MOST_CASE_BYTES];
-    size_t length = trial->oracle_call.numbers[1];
-    memcpy(carried, slice(&trial->oracle_call.output), length);
-    call_check(trial->subject, carried, length, ANSWER_BYTES, &trial->subject_call);
-    call_check(&the_oracle, carried, length, ANSWER_BYTES, &trial->oracle_call);
+    Bytes file = {carried, trial->oracle_call.numbers[1]};
+    memcpy(carried, slice(&trial->oracle_call.output), file.length);
+    call_check(trial->subject, file, CALL_ANSWER_BYTES, &trial->subject_call);
+    call_check(&the_oracle, file, CALL_ANSWER_BYTES, &trial->oracle_call);
     meet(&trial->tally.carried, &trial->oracle_call);
     if (trial->oracle_call.returned > 2) {
         return "the carried run is not accepted";
@@ -320,7 +175,7 @@ static const char *try_carried_file(Trial *trial) {
             return "carrying, read tick by tick, says otherwise";
         }
     }
-    return judge_calls(trial, carried);
+    return judge_calls(&trial->subject_call, &trial->oracle_call);
 }
 
 /* Whether the case went without a difference. Carrying is tried even where checking differs: it tells more. */
@@ -372,6 +227,11 @@ static void count_case(Counted *sum, bool same) {
     sum->failed += !same;
 }
 
+static void add(Counted *sum, Counted more) {
+    sum->passed += more.passed;
+    sum->failed += more.failed;
+}
+
 /* They are told apart from the other cases: each fault that a long file can have, and a carry into a long output, must be met. */
 static void try_long_cases(Trial *trial, Counted *sum) {
     static const uint32_t refusals[] = {2, 4, 7, 8};
@@ -383,7 +243,7 @@ static void try_long_cases(Trial *trial, Counted *sum) {
     const Met *check = &trial->tally.check, *carry = &trial->tally.carry;
     printf("long files: %d cases, to %d bytes\n", LONG_CASES, MOST_LONG_BYTES);
     print_counts("answers", carry->answers, 0, 5);
-    print_counts("refusals", check->refusals, 1, 11);
+    print_counts("refusals", check->refusals, 1, CARRY_REFUSALS);
     for (size_t i = 0; i < sizeof refusals / sizeof *refusals; i++) {
         sum->failed += never_met("in a long file refusal", check->refusals, carry->refusals, refusals[i], refusals[i]);
     }
@@ -393,6 +253,7 @@ static void try_long_cases(Trial *trial, Counted *sum) {
 
 static int try_all(Trial *trial, uint64_t count) {
     Counted sum = try_worked_runs(trial->subject);
+    add(&sum, try_handmade_tables(trial->subject));
     for (uint64_t number = 0; number < count; number++) {
         count_case(&sum, try_case(trial, number));
     }
@@ -401,6 +262,8 @@ static int try_all(Trial *trial, uint64_t count) {
     if (count >= ENOUGH_CASES) {
         sum.failed += never_met_at_all(&trial->tally);
     }
+    const Asked asked = {trial->subject, &the_oracle, trial->self, trial->seed, trial->path};
+    add(&sum, try_tables(&asked, count, count >= ENOUGH_CASES));
     printf("%" PRIu64 " passed, %" PRIu64 " failed\n", sum.passed, sum.failed);
     return sum.failed == 0 ? EXIT_SUCCESS : EXIT_FAILURE;
 }
@@ -409,7 +272,7 @@ static const Subject *the_library(void) {
 #ifdef ORACLE_ONLY
     return NULL;
 #else
-    static const Subject library = {"library", octalmure_check, octalmure_carry};
+    static const Subject library = {"library", octalmure_check, octalmure_carry, octalmure_import, octalmure_export};
     return &library;
 #endif
 }
