@@ -1,5 +1,6 @@
-/* bench [ROUNDS]: times check and carry of the library beside the independent checker of tests/independent, in one process, and prints
-   a line for each file. Both must say the same of every file, and carry to the same bytes; otherwise nothing more is timed. */
+/* bench [ROUNDS]: times check and carry of the library beside the independent checker of tests/independent, and import and export beside
+   straight.c, in one process, and prints a line for each file. Both must say the same of every file, and write the same bytes; otherwise
+   nothing more is timed. */
 #include <inttypes.h>
 #include <stdbool.h>
 #include <stdio.h>
@@ -10,10 +11,15 @@
 #include "../tests/independent/entries.h"
 #include "../tests/independent/oracle.h"
 #include "files.h"
+#include "straight.h"
 
 extern uint32_t octalmure_check(const uint8_t *file, size_t file_length, uint8_t *answer, size_t answer_length);
 extern uint32_t octalmure_carry(const uint8_t *file, size_t file_length, uint32_t horizon, uint8_t *output, size_t output_length,
                                 uint8_t *answer, size_t answer_length);
+extern uint32_t octalmure_import(const uint8_t *file, size_t file_length, const uint8_t *table, size_t table_length,
+                                 uint8_t *output, size_t output_length, uint8_t *answer, size_t answer_length);
+extern uint32_t octalmure_export(const uint8_t *file, size_t file_length, uint8_t *output, size_t output_length, uint8_t *answer,
+                                 size_t answer_length);
 
 enum { ANSWER_BYTES = 20, MOST_ROUNDS = 1001, BATCH_NANOSECONDS = 2000000 };
 
@@ -22,31 +28,43 @@ enum { ANSWER_BYTES = 20, MOST_ROUNDS = 1001, BATCH_NANOSECONDS = 2000000 };
 typedef struct {
     uint32_t (*check)(const uint8_t *, size_t, uint8_t *, size_t);
     uint32_t (*carry)(const uint8_t *, size_t, uint32_t, uint8_t *, size_t, uint8_t *, size_t);
-    uint8_t answer[ANSWER_BYTES], output[MOST_FILE_BYTES];
+    uint32_t (*import)(const uint8_t *, size_t, const uint8_t *, size_t, uint8_t *, size_t, uint8_t *, size_t);
+    uint32_t (*export)(const uint8_t *, size_t, uint8_t *, size_t, uint8_t *, size_t);
+    uint8_t answer[ANSWER_BYTES], output[MOST_TABLE_BYTES];
 } Side;
+
+typedef enum { CHECK, CARRY, IMPORT, EXPORT } Which;
+static const char *const call_names[] = {"check", "carry", "import", "export"};
 
 typedef struct {
     const char *name;
-    bool carry;
+    Which call;
     uint32_t horizon, records, cores; /* what it is carried to; the records that are checked, or written */
     File file;
+    Table table;
 } Case;
 
 static void call(Side *side, const Case *c) {
-    if (c->carry) {
-        side->carry(c->file.bytes, c->file.length, c->horizon, side->output, sizeof side->output, side->answer, ANSWER_BYTES);
-    } else {
-        side->check(c->file.bytes, c->file.length, side->answer, ANSWER_BYTES);
+    const uint8_t *file = c->file.bytes;
+    size_t length = c->file.length, room = sizeof side->output;
+    switch (c->call) {
+    case CHECK: side->check(file, length, side->answer, ANSWER_BYTES); break;
+    case CARRY: side->carry(file, length, c->horizon, side->output, room, side->answer, ANSWER_BYTES); break;
+    case IMPORT:
+        side->import(file, length, c->table.bytes, c->table.length, side->output, room, side->answer, ANSWER_BYTES);
+        break;
+    case EXPORT: side->export(file, length, side->output, room, side->answer, ANSWER_BYTES); break;
     }
 }
 
 /* Both sides once, on cleared slices. */
 static void expect_agreement(Side *ours, Side *straight, const Case *c) {
-    memset(ours->answer, 0, ANSWER_BYTES), memset(ours->output, 0, MOST_FILE_BYTES);
-    memset(straight->answer, 0, ANSWER_BYTES), memset(straight->output, 0, MOST_FILE_BYTES);
+    memset(ours->answer, 0, ANSWER_BYTES), memset(ours->output, 0, MOST_TABLE_BYTES);
+    memset(straight->answer, 0, ANSWER_BYTES), memset(straight->output, 0, MOST_TABLE_BYTES);
     call(ours, c), call(straight, c);
-    if (memcmp(ours->answer, straight->answer, ANSWER_BYTES) != 0 || memcmp(ours->output, straight->output, MOST_FILE_BYTES) != 0) {
-        printf("bench: the two do not agree on %s, %" PRIu32 " records, %" PRIu32 " cores\n", c->name, c->records, c->cores);
+    if (memcmp(ours->answer, straight->answer, ANSWER_BYTES) != 0 || memcmp(ours->output, straight->output, MOST_TABLE_BYTES) != 0) {
+        printf("bench: the two do not agree on %s %s, %" PRIu32 " records, %" PRIu32 " cores\n", call_names[c->call], c->name, c->records,
+               c->cores);
         exit(EXIT_FAILURE);
     }
 }
@@ -115,17 +133,22 @@ static void time_case(Bench *bench, const Case *c) {
     }
     double a = median(ours, bench->rounds), b = median(straight, bench->rounds);
     const uint8_t *answer = bench->ours.answer;
-    printf("%-5s  %-22s %4" PRIu32 " %3" PRIu32 "  %" PRIu32 " %-5" PRIu32 " %10.0f %10.0f %6.2f\n", c->carry ? "carry" : "check", c->name,
-           c->records, c->cores, number_at(answer), number_at(answer + 4), a, b, a / b);
+    printf("%-6s %-22s %4" PRIu32 " %3" PRIu32 "  %" PRIu32 " %-5" PRIu32 " %10.0f %10.0f %6.2f\n", call_names[c->call], c->name, c->records,
+           c->cores, number_at(answer), number_at(answer + 4), a, b, a / b);
 }
 
 static void time_check(Bench *bench, const char *name, uint32_t records, uint32_t cores, Case *c) {
-    c->name = name, c->carry = false, c->records = records, c->cores = cores;
+    c->name = name, c->call = CHECK, c->records = records, c->cores = cores;
     time_case(bench, c);
 }
 
 static void time_carry(Bench *bench, const char *name, uint32_t horizon, uint32_t records, uint32_t cores, Case *c) {
-    c->name = name, c->carry = true, c->horizon = horizon, c->records = records, c->cores = cores;
+    c->name = name, c->call = CARRY, c->horizon = horizon, c->records = records, c->cores = cores;
+    time_case(bench, c);
+}
+
+static void time_exchange(Bench *bench, Which which, const char *name, uint32_t records, uint32_t cores, Case *c) {
+    c->name = name, c->call = which, c->records = records, c->cores = cores;
     time_case(bench, c);
 }
 
@@ -176,10 +199,50 @@ static void time_small(Bench *bench) {
     time_check(bench, "no byte", 0, 0, &c);
 }
 
+/* Import and export ask neither cores nor rules: one run of the most records stands for all. */
+static void time_tables(Bench *bench) {
+    enum { MOST = 512, CORES = 16 };
+    static Case c;
+    permitted_file(MOST, CORES, HALF_BUSY, &c.file);
+    time_exchange(bench, EXPORT, "in time", MOST, CORES, &c);
+    table_of(&c.file, BY_START, &c.table);
+    time_exchange(bench, IMPORT, "by start", MOST, CORES, &c);
+    table_of(&c.file, BY_JOB, &c.table);
+    time_exchange(bench, IMPORT, "by job", MOST, CORES, &c);
+    table_of(&c.file, IN_NO_ORDER, &c.table);
+    time_exchange(bench, IMPORT, "in no order", MOST, CORES, &c);
+    repeat_first_job(&c.table);
+    time_exchange(bench, IMPORT, "last line again", MOST, CORES, &c);
+    spoil_line(MOST + 1, &c.table);
+    time_exchange(bench, IMPORT, "last line bad", MOST, CORES, &c);
+    spoil_line(2, &c.table);
+    time_exchange(bench, IMPORT, "first line bad", MOST, CORES, &c);
+    exchange_last_two(&c.file);
+    time_exchange(bench, EXPORT, "last two exchanged", MOST, CORES, &c);
+    longest_lines_file(&c.file);
+    time_exchange(bench, EXPORT, "longest lines", MOST, CORES, &c);
+    table_of(&c.file, BY_START, &c.table);
+    time_exchange(bench, IMPORT, "longest lines", MOST, CORES, &c);
+}
+
+static void time_small_tables(Bench *bench) {
+    static Case c;
+    worked_file(&c.file);
+    time_exchange(bench, EXPORT, "worked run", 5, 2, &c);
+    table_of(&c.file, BY_START, &c.table);
+    time_exchange(bench, IMPORT, "worked run", 5, 2, &c);
+    c.table.length--;
+    time_exchange(bench, IMPORT, "worked run, unclosed", 5, 2, &c);
+    empty_run_file(&c.file);
+    time_exchange(bench, EXPORT, "no record", 0, 1, &c);
+    table_of(&c.file, BY_START, &c.table);
+    time_exchange(bench, IMPORT, "header alone", 0, 1, &c);
+}
+
 int main(int argc, char **argv) {
     static Bench bench = {
-        .ours = {.check = octalmure_check, .carry = octalmure_carry},
-        .straight = {.check = oracle_check, .carry = oracle_carry},
+        .ours = {.check = octalmure_check, .carry = octalmure_carry, .import = octalmure_import, .export = octalmure_export},
+        .straight = {.check = oracle_check, .carry = oracle_carry, .import = straight_import, .export = straight_export},
     };
     bench.rounds = argc > 1 ? (uint32_t)strtoul(argv[1], NULL, 10) : 15;
     if (argc > 2 || bench.rounds == 0 || bench.rounds > MOST_ROUNDS) {
@@ -187,7 +250,7 @@ int main(int argc, char **argv) {
         return 2;
     }
     setvbuf(stdout, NULL, _IOLBF, BUFSIZ);
-    printf("%-5s  %-22s %4s %3s  %-7s %10s %10s %6s\n", "call", "file", "rec.", "N", "answer", "ours ns", "straight", "ratio");
+    printf("%-6s %-22s %4s %3s  %-7s %10s %10s %6s\n", "call", "file", "rec.", "N", "answer", "ours ns", "straight", "ratio");
     for (size_t i = 0; i < 2; i++) {
         for (size_t j = 0; j < 4; j++) {
             time_permitted(&bench, some_records[j], some_cores[i]);
@@ -195,5 +258,7 @@ int main(int argc, char **argv) {
         time_broken(&bench, 512, some_cores[i]);
     }
     time_small(&bench);
+    time_tables(&bench);
+    time_small_tables(&bench);
     return EXIT_SUCCESS;
 }

@@ -1,7 +1,9 @@
 #include "files.h"
 
+#include <inttypes.h>
 #include <stdio.h>
 #include <stdlib.h>
+#include <string.h>
 
 #include "../tests/independent/oracle.h"
 #include "../tests/independent/server.h"
@@ -163,4 +165,98 @@ void worked_file(File *file) {
 void empty_run_file(File *file) {
     static const Run run = {.cores = 1, .horizon = 1, .task_count = 1, .tasks = {{1, 1, 1, 1, 0}}};
     write_file(&run, file);
+}
+
+void longest_lines_file(File *file) {
+    Run run;
+    permitted_run(MOST_JOBS, MOST_CORES, HALF_BUSY, &run);
+    for (uint32_t k = 0; k < MOST_JOBS; k++) {
+        uint32_t time = UINT32_MAX - k * 37 % MOST_JOBS;
+        run.records[k] = (Record){UINT32_MAX - 1, UINT32_MAX - MOST_JOBS + k, time, time, time, time};
+    }
+    write_file(&run, file);
+}
+
+/* ---- tables ---- */
+
+static uint32_t get(const uint8_t *bytes) {
+    return (uint32_t)bytes[0] | (uint32_t)bytes[1] << 8 | (uint32_t)bytes[2] << 16 | (uint32_t)bytes[3] << 24;
+}
+
+/* Returns how many there are. */
+static uint32_t records_of(const File *file, Record *records) {
+    const uint8_t *at = file->bytes + 16 + 20 * (size_t)get(file->bytes + 12);
+    uint32_t count = get(at);
+    at += 4;
+    for (uint32_t k = 0; k < count; k++, at += 24) {
+        records[k] = (Record){get(at), get(at + 4), get(at + 8), get(at + 12), get(at + 16), get(at + 20)};
+    }
+    return count;
+}
+
+static void swap(Record *a, Record *b) {
+    Record was = *a;
+    *a = *b;
+    *b = was;
+}
+
+static void put_in_order(Record *records, uint32_t count, Order order) {
+    Chance chance = chance_of(9, count);
+    for (uint32_t k = count; order == IN_NO_ORDER && k > 1; k--) {
+        swap(&records[k - 1], &records[below(&chance, k)]);
+    }
+    for (uint32_t k = 1; order == BY_START && k < count; k++) {
+        for (uint32_t i = k; i > 0 && records[i - 1].start > records[i].start; i--) {
+            swap(&records[i - 1], &records[i]);
+        }
+    }
+}
+
+static void put_text(const char *text, Table *table) {
+    memcpy(table->bytes + table->length, text, strlen(text));
+    table->length += strlen(text);
+}
+
+void table_of(const File *file, Order order, Table *table) {
+    Record records[MOST_JOBS];
+    char line[80];
+    uint32_t count = records_of(file, records);
+    put_in_order(records, count, order);
+    table->length = 0;
+    put_text("task,job,release,start,end,core\n", table);
+    for (const Record *r = records; r < records + count; r++) {
+        snprintf(line, sizeof line, "%" PRIu32 ",%" PRIu32 ",%" PRIu32 ",%" PRIu32 ",%" PRIu32 ",%" PRIu32 "\n", r->task, r->job, r->release,
+                 r->start, r->end, r->core);
+        put_text(line, table);
+    }
+}
+
+/* Where a line begins; lines are counted from 1. */
+static size_t line_at(const Table *table, uint32_t line) {
+    size_t at = 0;
+    for (; line > 1; at++) {
+        line -= table->bytes[at] == '\n';
+    }
+    return at;
+}
+
+void spoil_line(uint32_t line, Table *table) {
+    table->bytes[line_at(table, line)] = 'x';
+}
+
+void repeat_first_job(Table *table) {
+    uint32_t lines = 0;
+    size_t first = line_at(table, 2), length = line_at(table, 3) - first;
+    for (size_t i = 0; i < table->length; i++) {
+        lines += table->bytes[i] == '\n';
+    }
+    table->length = line_at(table, lines) + length;
+    memcpy(table->bytes + table->length - length, table->bytes + first, length);
+}
+
+void exchange_last_two(File *file) {
+    uint8_t last[24], *at = file->bytes + file->length - 24;
+    memcpy(last, at, 24);
+    memcpy(at, at - 24, 24);
+    memcpy(at - 24, last, 24);
 }
