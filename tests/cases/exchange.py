@@ -180,6 +180,8 @@ for name, records in (
     no_export(f"no strict rise: {name}", run(2, 20, S, records), 14)
 exports("a strict rise across 2^31", (2, 20, S, [(2**31 - 1, 0, 0, 0, 0, 0), (2**31, 0, 0, 0, 0, 0)]),
         HEADER + b"2147483647,0,0,0,0,0\n2147483648,0,0,0,0,0\n", 74)
+exports("a strict rise across 2^16", (2, 20, S, [(0, 65535, 0, 0, 0, 0), (0, 65536, 0, 0, 0, 0), (65535, 0, 0, 0, 0, 0), (65536, 0, 0, 0, 0, 0)]),
+        HEADER + b"0,65535,0,0,0,0\n0,65536,0,0,0,0\n65535,0,0,0,0,0\n65536,0,0,0,0,0\n", 96)
 exports("equal starts stay in the order of the records", (2, 20, S, [(0, 9, 0, 5, 1, 3), (1, 0, 0, 5, 0, 2), (2, 0, 0, 4, 9, 1)]),
         HEADER + b"2,0,0,4,9,1\n0,9,0,5,1,3\n1,0,0,5,0,2\n", 68)
 exports("starts at the borders of text", (2, 20, S, [(0, 0, 0, TOP, 0, 0), (0, 1, 0, 10, 0, 0), (0, 2, 0, 9, 0, 0), (0, 3, 0, 2**31, 0, 0)]),
