@@ -5,6 +5,7 @@
 #include <stdlib.h>
 #include <string.h>
 
+#include "exchange.h"
 #include "input.h"
 #include "oracle.h"
 
@@ -12,16 +13,23 @@
 extern uint32_t probed_check(const uint8_t *file, size_t file_length, uint8_t *answer, size_t answer_length);
 extern uint32_t probed_carry(const uint8_t *file, size_t file_length, uint32_t horizon, uint8_t *output, size_t output_length,
                              uint8_t *answer, size_t answer_length);
+extern uint32_t probed_import(const uint8_t *file, size_t file_length, const uint8_t *table, size_t table_length, uint8_t *output,
+                              size_t output_length, uint8_t *answer, size_t answer_length);
+extern uint32_t probed_export(const uint8_t *file, size_t file_length, uint8_t *output, size_t output_length, uint8_t *answer,
+                              size_t answer_length);
 
 typedef struct {
     uint32_t (*check)(const uint8_t *, size_t, uint8_t *, size_t);
     uint32_t (*carry)(const uint8_t *, size_t, uint32_t, uint8_t *, size_t, uint8_t *, size_t);
+    uint32_t (*import)(const uint8_t *, size_t, const uint8_t *, size_t, uint8_t *, size_t, uint8_t *, size_t);
+    uint32_t (*export)(const uint8_t *, size_t, uint8_t *, size_t, uint8_t *, size_t);
 } Subject;
 
-static const Subject archive = {octalmure_guarded_check, octalmure_guarded_carry}, probed = {probed_check, probed_carry},
-                     oracle = {oracle_check, oracle_carry};
+static const Subject archive = {octalmure_guarded_check, octalmure_guarded_carry, octalmure_import, octalmure_export},
+                     probed = {probed_check, probed_carry, probed_import, probed_export},
+                     oracle = {oracle_check, oracle_carry, oracle_import, oracle_export};
 
-enum { CANARY = 32, ALIGNMENTS = 16, PATTERN = 0xA5, MOST_BYTES = MOST_INPUT };
+enum { CANARY = 32, ALIGNMENTS = 16, PATTERN = 0xA5, MOST_BYTES = MOST_OUTPUT };
 
 /* A slice between bytes that must not change. */
 typedef struct {
@@ -30,13 +38,13 @@ typedef struct {
 
 /* The memory of one call, and what it returned. */
 typedef struct {
-    Lent file, output, answer;
+    Lent file, table, output, answer;
     uint32_t returned;
 } Memory;
 
 typedef struct {
-    const uint8_t *file;
-    size_t length, output_length, answer_length, front;
+    const uint8_t *file, *table;
+    size_t length, table_length, output_length, answer_length, front;
     uint32_t horizon;
 } Call;
 
@@ -54,9 +62,11 @@ static void lend(Lent *lent, const Call *call, size_t length) {
 
 static void lend_all(Memory *memory, const Call *call) {
     lend(&memory->file, call, call->length);
+    lend(&memory->table, call, call->table_length);
     lend(&memory->output, call, call->output_length);
     lend(&memory->answer, call, call->answer_length);
     memcpy(memory->file.bytes + call->front, call->file, call->length);
+    memcpy(memory->table.bytes + call->front, call->table, call->table_length);
 }
 
 static void check(const Subject *subject, const Call *call, Memory *memory) {
@@ -70,6 +80,21 @@ static void carry(const Subject *subject, const Call *call, Memory *memory) {
     lend_all(memory, call);
     memory->returned = subject->carry(memory->file.bytes + front, call->length, call->horizon, memory->output.bytes + front,
                                       call->output_length, memory->answer.bytes + front, call->answer_length);
+}
+
+static void import(const Subject *subject, const Call *call, Memory *memory) {
+    size_t front = call->front;
+    lend_all(memory, call);
+    memory->returned =
+        subject->import(memory->file.bytes + front, call->length, memory->table.bytes + front, call->table_length,
+                        memory->output.bytes + front, call->output_length, memory->answer.bytes + front, call->answer_length);
+}
+
+static void export(const Subject *subject, const Call *call, Memory *memory) {
+    size_t front = call->front;
+    lend_all(memory, call);
+    memory->returned = subject->export(memory->file.bytes + front, call->length, memory->output.bytes + front, call->output_length,
+                                       memory->answer.bytes + front, call->answer_length);
 }
 
 /* Whether the slice and its canaries have the pattern, but for its first bytes. */
@@ -88,21 +113,24 @@ static bool same_slice(const Lent *a, const Lent *b, const Call *call, size_t le
 
 static bool same(const Memory *a, const Memory *b, const Call *call) {
     return a->returned == b->returned && same_slice(&a->file, &b->file, call, call->length) &&
+           same_slice(&a->table, &b->table, call, call->table_length) &&
            same_slice(&a->output, &b->output, call, call->output_length) &&
            same_slice(&a->answer, &b->answer, call, call->answer_length);
 }
 
-/* What holds of every call, whatever the oracle says. */
-static void demand_laws(const Call *call, const Memory *memory, bool carries) {
+/* What holds of every call, whatever the oracle says. All but a check write, or refuse to. */
+static void demand_laws(const Call *call, const Memory *memory, bool writes) {
     struct octalmure_answer five = octalmure_decode(memory->answer.bytes + call->front);
     bool told = call->answer_length >= OCTALMURE_ANSWER_BYTES;
     size_t written = told && memory->returned == OCTALMURE_CARRIED ? five.code : 0;
-    demand(memory->returned <= (carries ? OCTALMURE_CARRIED : OCTALMURE_REFUSED), "a number that is no answer of the call");
-    demand(!carries || memory->returned >= OCTALMURE_REFUSED, "a carry that neither carried nor refused");
+    demand(memory->returned <= (writes ? OCTALMURE_CARRIED : OCTALMURE_REFUSED), "a number that is no answer of the call");
+    demand(!writes || memory->returned >= OCTALMURE_REFUSED, "a call that neither wrote nor refused");
     demand(told ? five.answer == memory->returned : memory->returned == OCTALMURE_REFUSED, "the answer is not the number returned");
     demand(memcmp(memory->file.bytes + call->front, call->file, call->length) == 0, "the file changed");
+    demand(memcmp(memory->table.bytes + call->front, call->table, call->table_length) == 0, "the table changed");
     demand(written <= call->output_length, "more is written than there is room for");
     demand(changed_only(&memory->file, call, call->length, call->length), "bytes around the file changed");
+    demand(changed_only(&memory->table, call, call->table_length, call->table_length), "bytes around the table changed");
     demand(changed_only(&memory->output, call, call->output_length, written), "bytes of the output that must not change");
     demand(changed_only(&memory->answer, call, call->answer_length, told ? OCTALMURE_ANSWER_BYTES : 0),
            "bytes of the answer that must not change");
@@ -118,33 +146,89 @@ static void agree(const Call *call, void (*make)(const Subject *, const Call *, 
     demand(same(memory, &other, call), "the archive and its code with probes differ");
 }
 
+/* The call again, with what another one wrote in the place of the file. */
+static Call with_file(const Call *call, const Memory *memory) {
+    Call again = *call;
+    again.file = memory->output.bytes + call->front;
+    again.length = octalmure_decode(memory->answer.bytes + call->front).code;
+    again.output_length = 0;
+    return again;
+}
+
 /* The carried run is accepted, and lateness that was shown stays shown. */
 static void demand_carried(const Call *call, const Memory *carried, uint32_t before) {
     static Memory memory;
-    Call again = *call;
-    again.file = carried->output.bytes + call->front;
-    again.length = octalmure_decode(carried->answer.bytes + call->front).code;
-    again.output_length = 0;
+    Call again = with_file(call, carried);
     agree(&again, check, &memory);
     demand(memory.returned <= OCTALMURE_LATE_FROM_H, "the carried run is not accepted");
     demand(before != OCTALMURE_LATE_BEFORE_H || memory.returned == OCTALMURE_LATE_BEFORE_H, "lateness before H did not stay");
 }
 
-void try_input(const uint8_t *input, size_t length) {
+/* What was imported is a run file. */
+static void demand_imported(const Call *call, const Memory *imported) {
+    static Memory memory;
+    Call again = with_file(call, imported);
+    agree(&again, check, &memory);
+    demand(memory.returned < OCTALMURE_REFUSED, "the imported file is refused");
+}
+
+/* Import of export gives the file back. */
+static void demand_exported(const Call *call, const Memory *exported) {
+    static Memory memory;
+    Call again = *call;
+    again.table = exported->output.bytes + call->front;
+    again.table_length = octalmure_decode(exported->answer.bytes + call->front).code;
+    again.output_length = call->length;
+    agree(&again, import, &memory);
+    demand(memory.returned == OCTALMURE_CARRIED, "the exported table is not imported");
+    demand(memcmp(memory.output.bytes + call->front, call->file, call->length) == 0,
+           "import of export does not give the file back");
+}
+
+/* Whether a call wrote; then its answer slice is long enough. */
+static bool wrote(const Memory *memory) {
+    return memory->returned == OCTALMURE_CARRIED;
+}
+
+static void try_runs(const Call *call) {
     static Memory checked, carried;
-    uint8_t head[INPUT_HEAD] = {0};
-    memcpy(head, input, length < INPUT_HEAD ? length : INPUT_HEAD);
-    Call call = {.file = input + (length < INPUT_HEAD ? length : INPUT_HEAD),
-                 .length = length < INPUT_HEAD ? 0 : length - INPUT_HEAD,
-                 .horizon = octalmure_number(head),
-                 .output_length = (head[4] | (size_t)head[5] << 8) % (MOST_BYTES + 1),
-                 .answer_length = answer_length_of(head[6]),
-                 .front = CANARY + head[7] % ALIGNMENTS};
-    agree(&call, check, &checked);
-    demand_laws(&call, &checked, false);
-    agree(&call, carry, &carried);
-    demand_laws(&call, &carried, true);
-    if (carried.returned == OCTALMURE_CARRIED) {
-        demand_carried(&call, &carried, checked.returned);
+    agree(call, check, &checked);
+    demand_laws(call, &checked, false);
+    agree(call, carry, &carried);
+    demand_laws(call, &carried, true);
+    if (wrote(&carried)) {
+        demand_carried(call, &carried, checked.returned);
     }
+}
+
+static void try_tables(const Call *call) {
+    static Memory imported, exported;
+    agree(call, import, &imported);
+    demand_laws(call, &imported, true);
+    if (wrote(&imported)) {
+        demand_imported(call, &imported);
+    }
+    agree(call, export, &exported);
+    demand_laws(call, &exported, true);
+    if (wrote(&exported)) {
+        demand_exported(call, &exported);
+    }
+}
+
+void try_input(const uint8_t *input, size_t length) {
+    uint8_t head[INPUT_HEAD] = {0};
+    size_t got = length < INPUT_HEAD ? length : INPUT_HEAD, rest = length - got;
+    memcpy(head, input, got);
+    size_t file_length = head[8] | (size_t)head[9] << 8;
+    file_length = file_length < rest ? file_length : rest;
+    const Call call = {.file = input + got,
+                       .length = file_length,
+                       .table = input + got + file_length,
+                       .table_length = rest - file_length,
+                       .horizon = octalmure_number(head),
+                       .output_length = (head[4] | (size_t)head[5] << 8) % (MOST_OUTPUT + 1),
+                       .answer_length = answer_length_of(head[6]),
+                       .front = CANARY + head[7] % ALIGNMENTS};
+    try_runs(&call);
+    try_tables(&call);
 }

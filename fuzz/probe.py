@@ -6,7 +6,7 @@
 Every instruction of the object stands in the output as the bytes that it is, but for jumps, whose targets move: they are written by
 label. A probe counts in one byte of probe_counts, and keeps registers and flags. Probes stand at the front of each function, on both
 ways out of a conditional jump and on each entry of a jump table. EDGES gets a line for each probe: function, from, to.
-octalmure_check and octalmure_carry become probed_check and probed_carry, so that the archive itself can be linked beside them.
+What is called octalmure_.. becomes probed_.., so that the archive itself can be linked beside it.
 """
 import re
 import subprocess
@@ -19,7 +19,7 @@ PROBE = """\tlea -128(%rsp), %rsp
 \tadcb $0, probe_counts+{0}(%rip)
 \tpopfq
 \tlea 128(%rsp), %rsp"""
-PUBLIC = {".text.octalmure_check": "probed_check", ".text.octalmure_carry": "probed_carry"}
+PUBLIC = {f".text.octalmure_{call}": f"probed_{call}" for call in ("check", "carry", "import", "export")}
 INSTRUCTION = re.compile(r"^\s*([0-9a-f]+):\t([0-9a-f ]+?)\s*\t(\S+)\s*(.*)$")
 RELOCATION = re.compile(r"^([0-9a-f]+) (R_X86_64_\w+)\s+(\S+?)([+-]0x[0-9a-f]+)?$")
 SECTION = re.compile(r"^(?:Disassembly of section|Contents of section|RELOCATION RECORDS FOR) \[?(.+?)\]?:$")

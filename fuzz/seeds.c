@@ -1,13 +1,23 @@
-/* seeds FOLDER COUNT RUN...: writes inputs to begin with: each run file, carried to its own horizon and to a longer one, and COUNT of
-   the cases of tests/independent, short ones but for a few. */
+/* seeds FOLDER COUNT RUN...: writes inputs to begin with: each run file with its table, carried to its own horizon and to a longer one;
+   COUNT of the cases of tests/independent, short ones but for a few; and a table of each kind that is made there. */
 #include <stdbool.h>
 #include <stdio.h>
 #include <stdlib.h>
 
 #include "cases.h"
+#include "exchange.h"
 #include "input.h"
+#include "tables.h"
 
-enum { SEED = 7, SHORT_FILE = 700, LONG_FILES = 4, LONGER = 10, WHOLE_OUTPUT = 12948, WHOLE_ANSWER = 20 };
+enum { SEED = 7, SHORT_FILE = 700, SHORT_TABLE = 900, MANY_LINES = 4000, LONG_FILES = 4, LONGER = 10 };
+enum { WHOLE_FILE = 12948, WHOLE_ANSWER = 20 };
+
+/* What an input says, but for the alignment. */
+typedef struct {
+    const uint8_t *file, *table;
+    size_t length, table_length, output_length, answer_length;
+    uint32_t horizon;
+} Input;
 
 static int written;
 
@@ -17,16 +27,18 @@ static void put(uint8_t *at, size_t number, int bytes) {
     }
 }
 
-static void write_input(const char *folder, const Case *made) {
+static void write_input(const char *folder, const Input *input) {
     char path[4096];
     uint8_t head[INPUT_HEAD] = {0};
-    put(head, made->horizon, 4);
-    put(head + 4, made->output_length, 2);
-    head[6] = (uint8_t)(made->carry_answer_length < WHOLE_ANSWER ? made->carry_answer_length : WHOLE_ANSWER);
+    put(head, input->horizon, 4);
+    put(head + 4, input->output_length, 2);
+    head[6] = (uint8_t)(input->answer_length < WHOLE_ANSWER ? input->answer_length : WHOLE_ANSWER);
+    put(head + 8, input->length, 2);
     snprintf(path, sizeof path, "%s/%03d", folder, written++);
     FILE *out = fopen(path, "wb");
     bool whole = out != NULL && fwrite(head, 1, sizeof head, out) == sizeof head &&
-                 fwrite(made->file, 1, made->length, out) == made->length;
+                 fwrite(input->file, 1, input->length, out) == input->length &&
+                 fwrite(input->table, 1, input->table_length, out) == input->table_length;
     if (out == NULL || fclose(out) != 0 || !whole) {
         fprintf(stderr, "seeds: %s cannot be written\n", path);
         exit(1);
@@ -34,20 +46,23 @@ static void write_input(const char *folder, const Case *made) {
 }
 
 static void write_run(const char *folder, const char *name) {
-    static Case made;
+    static uint8_t file[WHOLE_FILE + 1], table[MOST_OUTPUT];
+    uint8_t answer[WHOLE_ANSWER];
     FILE *in = fopen(name, "rb");
     if (in == NULL) {
         fprintf(stderr, "seeds: %s cannot be read\n", name);
         exit(1);
     }
-    made.length = fread(made.file, 1, sizeof made.file, in);
+    Input input = {.file = file, .table = table, .output_length = MOST_OUTPUT, .answer_length = WHOLE_ANSWER};
+    input.length = fread(file, 1, sizeof file, in);
     fclose(in);
-    made.output_length = WHOLE_OUTPUT;
-    made.carry_answer_length = WHOLE_ANSWER;
-    made.horizon = made.length < 12 ? 0 : made.file[8] | (uint32_t)made.file[9] << 8 | (uint32_t)made.file[10] << 16;
-    write_input(folder, &made);
-    made.horizon += LONGER;
-    write_input(folder, &made);
+    if (oracle_export(file, input.length, table, sizeof table, answer, sizeof answer) == 5) {
+        input.table_length = answer[4] | (size_t)answer[5] << 8;
+    }
+    input.horizon = input.length < 12 ? 0 : file[8] | (uint32_t)file[9] << 8 | (uint32_t)file[10] << 16;
+    write_input(folder, &input);
+    input.horizon += LONGER;
+    write_input(folder, &input);
 }
 
 static void write_cases(const char *folder, int count) {
@@ -56,8 +71,39 @@ static void write_cases(const char *folder, int count) {
     for (uint64_t number = 0; count > 0; number++) {
         make_case(SEED, number, &made);
         if (made.length <= SHORT_FILE || longer-- > 0) {
-            write_input(folder, &made);
+            write_input(folder, &(const Input){.file = made.file,
+                                               .length = made.length,
+                                               .table = made.file,
+                                               .horizon = made.horizon,
+                                               .output_length = made.output_length,
+                                               .answer_length = made.carry_answer_length});
             count--;
+        }
+    }
+}
+
+/* Whether the table is what is judged, and the input short; one of 512 lines and more is never short, and need only fit. */
+static bool is_seed(const TableCase *made) {
+    size_t length = INPUT_HEAD + made->length + made->table_length;
+    bool full = made->table_length > MANY_LINES;
+    return made->origin != AS_IN_CASES && length <= (full ? (size_t)MOST_INPUT : (size_t)SHORT_FILE + SHORT_TABLE);
+}
+
+/* The first of each kind of table. */
+static void write_tables(const char *folder) {
+    static TableCase made;
+    bool seen[BORDERS] = {false};
+    for (uint64_t number = 0, left = BORDERS; left > 0; number++) {
+        make_table_case(SEED, number, &made);
+        if (!seen[made.border] && is_seed(&made)) {
+            write_input(folder, &(const Input){.file = made.file,
+                                               .length = made.length,
+                                               .table = made.table,
+                                               .table_length = made.table_length,
+                                               .output_length = made.import_room,
+                                               .answer_length = WHOLE_ANSWER});
+            seen[made.border] = true;
+            left--;
         }
     }
 }
@@ -72,5 +118,6 @@ int main(int argc, char **argv) {
         write_run(argv[1], argv[i]);
     }
     write_cases(argv[1], count);
+    write_tables(argv[1]);
     return 0;
 }
