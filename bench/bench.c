@@ -1,6 +1,6 @@
-/* bench [ROUNDS]: times check and carry of the library beside the independent checker of tests/independent, and import and export beside
-   straight.c, in one process, and prints a line for each file. Both must say the same of every file, and write the same bytes; otherwise
-   nothing more is timed. */
+/* bench [ROUNDS]: times check and carry of the library beside the independent checker of tests/independent, and import and export
+   beside straight.c, in one process, and prints a line for each file. Both must say the same of every file, and write the same
+   bytes; otherwise nothing more is timed. */
 #include <inttypes.h>
 #include <stdbool.h>
 #include <stdio.h>
@@ -62,9 +62,10 @@ static void expect_agreement(Side *ours, Side *straight, const Case *c) {
     memset(ours->answer, 0, ANSWER_BYTES), memset(ours->output, 0, MOST_TABLE_BYTES);
     memset(straight->answer, 0, ANSWER_BYTES), memset(straight->output, 0, MOST_TABLE_BYTES);
     call(ours, c), call(straight, c);
-    if (memcmp(ours->answer, straight->answer, ANSWER_BYTES) != 0 || memcmp(ours->output, straight->output, MOST_TABLE_BYTES) != 0) {
-        printf("bench: the two do not agree on %s %s, %" PRIu32 " records, %" PRIu32 " cores\n", call_names[c->call], c->name, c->records,
-               c->cores);
+    if (memcmp(ours->answer, straight->answer, ANSWER_BYTES) != 0 ||
+        memcmp(ours->output, straight->output, MOST_TABLE_BYTES) != 0) {
+        printf("bench: the two do not agree on %s %s, %" PRIu32 " records, %" PRIu32 " cores\n", call_names[c->call], c->name,
+               c->records, c->cores);
         exit(EXIT_FAILURE);
     }
 }
@@ -133,8 +134,8 @@ static void time_case(Bench *bench, const Case *c) {
     }
     double a = median(ours, bench->rounds), b = median(straight, bench->rounds);
     const uint8_t *answer = bench->ours.answer;
-    printf("%-6s %-22s %4" PRIu32 " %3" PRIu32 "  %" PRIu32 " %-5" PRIu32 " %10.0f %10.0f %6.2f\n", call_names[c->call], c->name, c->records,
-           c->cores, number_at(answer), number_at(answer + 4), a, b, a / b);
+    printf("%-6s %-22s %4" PRIu32 " %3" PRIu32 "  %" PRIu32 " %-5" PRIu32 " %10.0f %10.0f %6.2f\n", call_names[c->call], c->name,
+           c->records, c->cores, number_at(answer), number_at(answer + 4), a, b, a / b);
 }
 
 static void time_check(Bench *bench, const char *name, uint32_t records, uint32_t cores, Case *c) {

@@ -225,8 +225,8 @@ void table_of(const File *file, Order order, Table *table) {
     table->length = 0;
     put_text("task,job,release,start,end,core\n", table);
     for (const Record *r = records; r < records + count; r++) {
-        snprintf(line, sizeof line, "%" PRIu32 ",%" PRIu32 ",%" PRIu32 ",%" PRIu32 ",%" PRIu32 ",%" PRIu32 "\n", r->task, r->job, r->release,
-                 r->start, r->end, r->core);
+        snprintf(line, sizeof line, "%" PRIu32 ",%" PRIu32 ",%" PRIu32 ",%" PRIu32 ",%" PRIu32 ",%" PRIu32 "\n", r->task, r->job,
+                 r->release, r->start, r->end, r->core);
         put_text(line, table);
     }
 }

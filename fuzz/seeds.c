@@ -1,5 +1,5 @@
-/* seeds FOLDER COUNT RUN...: writes inputs to begin with: each run file with its table, carried to its own horizon and to a longer one;
-   COUNT of the cases of tests/independent, short ones but for a few; and a table of each kind that is made there. */
+/* seeds FOLDER COUNT RUN...: writes inputs to begin with: each run file with its table, carried to its own horizon and to a longer
+   one; COUNT of the cases of tests/independent, short ones but for a few; and a table of each kind that is made there. */
 #include <stdbool.h>
 #include <stdio.h>
 #include <stdlib.h>

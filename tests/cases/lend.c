@@ -1,7 +1,8 @@
 /* lend: makes the calls that come on standard input, and leaves on standard output what each returned and all that it was lent.
-   A call is five numbers, which call (0 import, 1 export) and the lengths of file, table, output and answer, then the file, then the
-   table. Numbers are of four bytes, low byte first. Of each call there comes the number returned, and then file, table, output and
-   answer, each with GUARD bytes in front and behind. Where nothing is given byte number i, counted from the first guard, is 37 i + 11. */
+   A call is five numbers, which call (0 import, 1 export) and the lengths of file, table, output and answer, then the file, then
+   the table. Numbers are of four bytes, low byte first. Of each call there comes the number returned, and then file, table, output
+   and answer, each with GUARD bytes in front and behind. Where nothing is given, byte number i is 37 i + 11, counted from the first
+   of the guard. */
 #include <octalmure.h>
 #include <stdio.h>
 #include <stdlib.h>
@@ -42,19 +43,19 @@ static void leave(Slice slice) {
 }
 
 static void make_call(const uint8_t *head) {
-    uint32_t n[NUMBERS];
+    uint32_t n[NUMBERS], answered;
     uint8_t returned[OCTALMURE_NUMBER_BYTES];
     for (size_t i = 0; i < NUMBERS; i++) {
         n[i] = octalmure_number(head + OCTALMURE_NUMBER_BYTES * i);
     }
     Slice file = lend_given(n[1]), table = lend_given(n[2]), output = lend(n[3]), answer = lend(n[4]);
     if (n[0] == IMPORT) {
-        octalmure_put_number(returned, octalmure_import(file.bytes, file.length, table.bytes, table.length, output.bytes, output.length,
-                                                        answer.bytes, answer.length));
+        answered = octalmure_import(file.bytes, file.length, table.bytes, table.length, output.bytes, output.length, answer.bytes,
+                                    answer.length);
     } else {
-        octalmure_put_number(
-            returned, octalmure_export(file.bytes, file.length, output.bytes, output.length, answer.bytes, answer.length));
+        answered = octalmure_export(file.bytes, file.length, output.bytes, output.length, answer.bytes, answer.length);
     }
+    octalmure_put_number(returned, answered);
     demand(fwrite(returned, 1, sizeof returned, stdout) == sizeof returned, "standard output cannot be written");
     leave(file);
     leave(table);
