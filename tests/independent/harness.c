@@ -1,7 +1,7 @@
-/* harness SEED COUNT [PATH]         holds the library to the oracle on COUNT files and as many tables; PATH gets the first file
-   that they differ on, PATH.table the first table, and PATH.file the file that was given with it harness --self SEED COUNT [PATH]
-   holds the oracle to itself, to the laws of the slices and to a word by word reading Both try the worked runs of the paper, the
-   tables written by hand, and the long files and tables of the seed too. */
+/* harness SEED COUNT [PATH]         holds the library to the oracle on COUNT files and as many tables
+   harness --self SEED COUNT [PATH]  holds the oracle to itself, to the laws of the slices and to a word by word reading
+   PATH gets the first file that they differ on, PATH.table the first table, and PATH.file the file that was given with it.
+   Both try the worked runs of the paper, the tables written by hand, and the long files and tables of the seed too. */
 #include <inttypes.h>
 #include <stdbool.h>
 #include <stdio.h>

@@ -4,7 +4,7 @@
 
 #include "chance.h"
 
-static const char header[] = "task,job,release,start,end,core\n";
+enum { HEADER_LINE_BYTES = sizeof "task,job,release,start,end,core\n" - 1 };
 
 typedef enum {
     LINE_3_BAD,       /* all lines but the third are right */
@@ -57,7 +57,7 @@ static size_t right_lines(uint8_t *table, size_t from, size_t to) {
 
 /* The text between a front and a back, again and again, as the lines behind the header. */
 static size_t filled(uint8_t *table, size_t length, const char *front, const char *again, const char *back) {
-    size_t at = sizeof header - 1, end = length - strlen(back);
+    size_t at = HEADER_LINE_BYTES, end = length - strlen(back);
     memcpy(table + at, front, strlen(front));
     at = repeat(table, at + strlen(front), end, again);
     memcpy(table + at, back, strlen(back));
@@ -66,7 +66,7 @@ static size_t filled(uint8_t *table, size_t length, const char *front, const cha
 
 static size_t lengthen(Kind kind, uint8_t *table, size_t whole, size_t length) {
     static const char bad[] = "1,1,1,1,1,1\n1,2,3,4,5\n";
-    size_t at = sizeof header - 1;
+    size_t at = HEADER_LINE_BYTES;
     switch (kind) {
     case LINE_3_BAD: memcpy(table + at, bad, sizeof bad - 1); return right_lines(table, at + sizeof bad - 1, length);
     case MANY_LINES: return right_lines(table, at, length);

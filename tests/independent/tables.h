@@ -9,7 +9,7 @@
 
 #include "cases.h"
 
-enum { MOST_TABLE_BYTES = 40000, MOST_RECORD_LINES = 520, TABLE_ANSWER_BYTES = 40 };
+enum { MOST_TABLE_BYTES = 40000, TABLE_ANSWER_BYTES = 40 };
 
 /* Where the records of the file come from. */
 typedef enum {
