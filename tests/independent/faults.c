@@ -404,8 +404,7 @@ void nothing(TableCase *made, Chance *chance) {
     (void)made, (void)chance;
 }
 
-/* As many as the header says, or this does not compile. */
-const Kind kinds[] = {
+static const Kind all_kinds[] = {
     /* the table is imported */
     {"by start", SORTED, nothing},
     {"in any order", IN_ANY_ORDER, nothing},
@@ -465,3 +464,6 @@ const Kind kinds[] = {
     {"two bad", IN_ANY_ORDER, two_bad},
     {"again and bad", IN_ANY_ORDER, again_and_bad},
 };
+
+_Static_assert(sizeof all_kinds / sizeof *all_kinds == BORDERS, "BORDERS counts the kinds");
+const Kind *const kinds = all_kinds;

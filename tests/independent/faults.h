@@ -14,7 +14,8 @@ typedef struct {
     void (*spoil)(TableCase *, Chance *);
 } Kind;
 
-extern const Kind kinds[BORDERS];
+/* There are BORDERS of them. */
+extern const Kind *const kinds;
 
 void nothing(TableCase *made, Chance *chance);
 void cut_anywhere(TableCase *made, Chance *chance);
