@@ -1,5 +1,6 @@
 #!/usr/bin/env python3
-"""Writes the paper's worked runs, and the longest run file, as run files beside this script.
+"""Writes the paper's worked runs, and the longest run file, as run files beside this script, and the records of each that is not
+refused as a text table.
 
   make.py [FOLDER]
 """
@@ -20,6 +21,12 @@ def run(cores, horizon, tasks, records):
     return struct.pack(f"<{len(numbers)}I", *numbers)
 
 
+def table(records):
+    """The lines by start; those of equal starts in the order of the records, which Python's sort keeps."""
+    lines = [("task", "job", "release", "start", "end", "core"), *sorted(records, key=lambda record: record[3])]
+    return "".join(",".join(map(str, line)) + "\n" for line in lines).encode()
+
+
 # Set S: P, B, W, O, J
 S = [(10, 1, 2, 0, 1), (30, 6, 8, 0, 1), (60, 15, 17, 0, 2), (60, 15, 20, 0, 2)]
 # records: task, job, r, s, e, core
@@ -28,28 +35,32 @@ FIRST_TWO = [(0, 0, 1, 15, 17, 2), (0, 1, 10, 17, 19, 1)]
 UNIT = (1, 1, 1, 0, 0)
 
 RUNS = {
-    "c1": run(2, 20, S, FIRST_TWO + [(1, 0, 1, 17, 25, 2)] + LAST_TWO),
-    "c2": run(2, 10, S, [(0, 0, 1, 15, 17, 2), (1, 0, 1, 17, 25, 1)] + LAST_TWO),
-    "c4": run(2, 30, S, FIRST_TWO + [(0, 2, 20, 20, 22, 1), (1, 0, 1, 17, 25, 2)] + LAST_TWO),
-    "c5": run(
+    "c1": (2, 20, S, FIRST_TWO + [(1, 0, 1, 17, 25, 2)] + LAST_TWO),
+    "c2": (2, 10, S, [(0, 0, 1, 15, 17, 2), (1, 0, 1, 17, 25, 1)] + LAST_TWO),
+    "c4": (2, 30, S, FIRST_TWO + [(0, 2, 20, 20, 22, 1), (1, 0, 1, 17, 25, 2)] + LAST_TWO),
+    "c5": (
         2, 10,
         [(20, 5, 5, 0, 0), (20, 5, 5, 5, 0), (20, 1, 1, 5, 0), (100, 3, 3, 2, 0)],
         [(0, 0, 0, 0, 5, 1), (1, 0, 5, 5, 10, 1), (2, 0, 5, 5, 6, 2), (3, 0, 2, 6, 9, 2)],
     ),
-    "c6": run(2, 20, S, [(0, 0, 1, 15, 18, 2), (0, 1, 10, 17, 19, 1), (1, 0, 1, 17, 25, 2)] + LAST_TWO),
-    "c7": run(2, 20, S, FIRST_TWO + [(1, 0, 1, 17, 25, 2)] + LAST_TWO[:1]),
-    "c8": b"",
-    "c9": run(1, 512, [UNIT], [(0, j, j, j, j + 1, 1) for j in range(512)]),
-    "c10": run(1, 513, [UNIT], []),
-    "c11": run(1, 1, [(1, 1, 1, 1, 0)], []),
+    "c6": (2, 20, S, [(0, 0, 1, 15, 18, 2), (0, 1, 10, 17, 19, 1), (1, 0, 1, 17, 25, 2)] + LAST_TWO),
+    "c7": (2, 20, S, FIRST_TWO + [(1, 0, 1, 17, 25, 2)] + LAST_TWO[:1]),
+    "c9": (1, 512, [UNIT], [(0, j, j, j, j + 1, 1) for j in range(512)]),
+    "c11": (1, 1, [(1, 1, 1, 1, 0)], []),
     # 32 tasks with 16 jobs each, released at 32j, two ticks long, on one core: they start one after the other, by job and then by
     # task, half of them from H on. Job j of task i ends at 64j + 2i + 2 and is due at 32j + 32, so it is in time only if j = 0 and
     # i < 16: 496 are late, and record 1 is the first. A carry to its own H starts those from H on in the same order, so it writes
     # the same bytes.
-    "longest": run(1, 512, [(32, 2, 2, 0, 0)] * 32, [
+    "longest": (1, 512, [(32, 2, 2, 0, 0)] * 32, [
         (i, j, 32 * j, 64 * j + 2 * i, 64 * j + 2 * i + 2, 1) for i in range(32) for j in range(16)
     ]),
 }
 
-for name, data in RUNS.items():
+# runs that are refused, and so have no table
+REFUSED = {"c8": b"", "c10": run(1, 513, [UNIT], [])}
+
+for name, (*front, records) in RUNS.items():
+    (folder / f"{name}.run").write_bytes(run(*front, records))
+    (folder / f"{name}.csv").write_bytes(table(records))
+for name, data in REFUSED.items():
     (folder / f"{name}.run").write_bytes(data)
