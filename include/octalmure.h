@@ -1,7 +1,8 @@
-/* Octalmure: checks a recorded run of non-preemptive earliest-deadline-first tasks, and carries it to a longer horizon.
+/* Octalmure: checks a recorded run of non-preemptive earliest-deadline-first tasks, carries it to a longer horizon, and takes and
+ * gives its records as a text table.
  *
  * For C11 and C++11 and later, on x86-64 Linux. Link with -loctalmure; pkg-config knows it as "octalmure".
- * The words of this file (run file, record, late, H, the rules) are explained in docs/FORMAT.md of the source.
+ * The words of this file (run file, record, late, H, the rules, text table) are explained in docs/FORMAT.md of the source.
  *
  * An accepted run without lateness says nothing about other runs of the same tasks.
  */
@@ -11,7 +12,7 @@
 #include <stddef.h>
 #include <stdint.h>
 
-#define OCTALMURE_VERSION "0.2.0"
+#define OCTALMURE_VERSION "0.3.0"
 
 /* One cast for both languages: C++ warns of C's. */
 #ifdef __cplusplus
@@ -25,13 +26,15 @@ extern "C" {
 
 /* ---- sizes and limits ---- */
 
-#define OCTALMURE_ANSWER_BYTES 20       /* the five numbers of an answer */
-#define OCTALMURE_MOST_FILE_BYTES 12948 /* the longest run file that is read through; room enough for every carried run */
-#define OCTALMURE_MOST_CORES 16         /* N is 1 to 16 */
-#define OCTALMURE_MOST_TASKS 32         /* a file has 1 to 32 tasks */
-#define OCTALMURE_MOST_JOBS 512         /* all tasks together have at most 512 jobs, and a file at most 512 records */
-#define OCTALMURE_MOST_HORIZON 1000000  /* H is 1 to 1,000,000 ticks */
-#define OCTALMURE_MOST_TICKS 1000000    /* so are P, B and W; O is 0 to 1,000,000; J is below P */
+#define OCTALMURE_ANSWER_BYTES 20        /* the five numbers of an answer */
+#define OCTALMURE_MOST_FILE_BYTES 12948  /* the longest run file that is read through; room enough for every one that is written */
+#define OCTALMURE_MOST_TABLE_BYTES 33824 /* the longest text table; room enough for every one that is written */
+#define OCTALMURE_MOST_LINE_BYTES 66     /* the longest line of a table: six numbers of ten digits, five commas, a line feed */
+#define OCTALMURE_MOST_CORES 16          /* N is 1 to 16 */
+#define OCTALMURE_MOST_TASKS 32          /* a file has 1 to 32 tasks */
+#define OCTALMURE_MOST_JOBS 512          /* all tasks together have at most 512 jobs, and a file or a table at most 512 records */
+#define OCTALMURE_MOST_HORIZON 1000000   /* H is 1 to 1,000,000 ticks */
+#define OCTALMURE_MOST_TICKS 1000000     /* so are P, B and W; O is 0 to 1,000,000; J is below P */
 
 /* ---- what is answered ---- */
 
@@ -47,9 +50,12 @@ enum octalmure_answer_number {
     OCTALMURE_LATE_FROM_H = 2,
     /* A rule is broken. Code: the lowest broken octalmure_rule. Place: the first at which it is broken, as is said there. */
     OCTALMURE_BROKEN = 3,
-    /* Refused. Code: an octalmure_refusal. Place: the task, for OCTALMURE_REFUSAL_TASK_RANGE. */
+    /* Refused. Code: an octalmure_refusal. Place: the task, for OCTALMURE_REFUSAL_TASK_RANGE; the line of the table, counted from 1,
+       for OCTALMURE_REFUSAL_BAD_LINE and OCTALMURE_REFUSAL_REPEATED_JOB. */
     OCTALMURE_REFUSED = 4,
-    /* Carried. Code: how many bytes were written to the output. */
+    /* Written: a run that was carried or imported, or a table. Code: how many bytes were written to the output. */
+    OCTALMURE_WRITTEN = 5,
+    /* The same number, as what a carry answers. */
     OCTALMURE_CARRIED = 5
 };
 
@@ -66,7 +72,8 @@ enum octalmure_rule {
     OCTALMURE_RULES_END            /* no rule: the number after the last one */
 };
 
-/* Codes of OCTALMURE_REFUSED. A file is judged from the front, and the first fault met is the answer. 9 to 11 are for carrying. */
+/* Codes of OCTALMURE_REFUSED. A file is judged from the front, and the first fault met is the answer. 9 and 10 are for carrying,
+   12 and 13 for an import, 14 for an export, 11 for each of these. */
 enum octalmure_refusal {
     OCTALMURE_REFUSAL_CUT_SHORT = 1,      /* the bytes end inside a count or a section */
     OCTALMURE_REFUSAL_SETTING_COUNT = 2,  /* the setting's count is not 2 */
@@ -74,11 +81,14 @@ enum octalmure_refusal {
     OCTALMURE_REFUSAL_TASK_COUNT = 4,     /* task count out of range */
     OCTALMURE_REFUSAL_TASK_RANGE = 5,     /* a task out of its ranges; the lowest-numbered one is the place */
     OCTALMURE_REFUSAL_TOO_MANY_JOBS = 6,  /* more than 512 jobs, at H or, when carrying, at H' */
-    OCTALMURE_REFUSAL_RECORD_COUNT = 7,   /* record count above 512 */
+    OCTALMURE_REFUSAL_RECORD_COUNT = 7,   /* a file's record count above 512, or a 513th record line of a table */
     OCTALMURE_REFUSAL_TRAILING_BYTES = 8, /* bytes after the last section */
     OCTALMURE_REFUSAL_NEW_HORIZON = 9,    /* H' below H or above 1,000,000 */
     OCTALMURE_REFUSAL_BROKEN_RUN = 10,    /* the run to be carried breaks a rule */
-    OCTALMURE_REFUSAL_SHORT_OUTPUT = 11   /* the output is too short */
+    OCTALMURE_REFUSAL_SHORT_OUTPUT = 11,  /* the output is too short */
+    OCTALMURE_REFUSAL_BAD_LINE = 12,      /* a line that is not as a table's lines are; it is the place */
+    OCTALMURE_REFUSAL_REPEATED_JOB = 13,  /* a line with a task and job that an earlier line has given; it is the place */
+    OCTALMURE_REFUSAL_NOT_RISING = 14     /* the records to be exported do not rise strictly by task and job */
 };
 
 /* The five numbers. Numbers of the place that are not used are 0. */
@@ -88,18 +98,20 @@ struct octalmure_answer {
     uint32_t place[3];
 };
 
-/* ---- the two calls ---- */
+/* ---- the four calls ---- */
 
 /* What every call keeps to:
  * - It returns the answer number and writes the five numbers into the first 20 bytes of the answer slice. Bytes of the answer slice
  *   after the 20th never change.
  * - An answer slice of fewer than 20 bytes is met first of all: the call returns OCTALMURE_REFUSED, and no byte of any slice changes.
- * - The file never changes.
+ * - The file and the table never change. What is written stands at the front of the output, and bytes of the output after it keep
+ *   their values; a refusal changes no byte of the output.
  *
  * All this is proved, of slices. What no proof can see is whether a pointer and a length from C are one, so it is for the caller of
- * the two plain calls to see to it that
+ * the four plain calls to see to it that
  * - each pointer leads to as many bytes as its length says, at most PTRDIFF_MAX; no pointer is null, even where the length is 0;
- * - the answer slice shares no byte with the file or the output, and the output none with the file.
+ * - the answer slice shares no byte with any other slice, and the output none with the file or the table. File and table may share
+ *   bytes: both are only read.
  * Otherwise what a plain call does is not defined. The guarded calls below look for what can be seen of this.
  *
  * Nor does a proof see the stack: a call needs some, and 64 KiB are enough (tested). It uses no heap, no file and no variable that
@@ -111,19 +123,41 @@ uint32_t octalmure_check(const uint8_t *file, size_t file_length, uint8_t *answe
 
 /* Carries the run in the file to the horizon H', which is at least the file's H.
  * Carried: returns OCTALMURE_CARRIED, and the front of the output is the carried run as a whole file, of as many bytes as the code
- *   says: 20, and 20 for each task, and 24 for each job at H'. Bytes of the output after it keep their values.
- * Refused: returns OCTALMURE_REFUSED, and no byte of the output changes. A file that check refuses is refused in the same way; then
- *   come 9, 6 at H', 10 and 11, in this order. 10 does not tell which rule the run breaks; check does.
+ *   says: 20, and 20 for each task, and 24 for each job at H'.
+ * Refused: returns OCTALMURE_REFUSED. A file that check refuses is refused in the same way; then come 9, 6 at H', 10 and 11, in this
+ *   order. 10 does not tell which rule the run breaks; check does.
  */
 uint32_t octalmure_carry(const uint8_t *file, size_t file_length, uint32_t horizon, uint8_t *output, size_t output_length,
                          uint8_t *answer, size_t answer_length);
+
+/* Takes the setting and the tasks from the file and the records from a text table, and writes the run file of both. A table is the
+ * header line "task,job,release,start,end,core" and then a line for each record, in any order: six numbers below 2^32 in decimal,
+ * without leading zeros, a comma between two. Each line is closed by a line feed, the last one too.
+ * Written: returns OCTALMURE_WRITTEN, and the front of the output is a whole run file, its records in rising order of task and job,
+ *   of as many bytes as the code says: 20, and 20 for each task of the file, and 24 for each record of the table.
+ * Refused: returns OCTALMURE_REFUSED. A file that check refuses is refused in the same way, also where the fault is in its records,
+ *   which are not used otherwise. Then the table is judged line by line, each line for 12, 7 and 13 in turn before the next is read;
+ *   11 comes last.
+ * The run is not judged: a table may lack jobs, or have some that do not exist. Check finds that, by rule 1.
+ */
+uint32_t octalmure_import(const uint8_t *file, size_t file_length, const uint8_t *table, size_t table_length, uint8_t *output,
+                          size_t output_length, uint8_t *answer, size_t answer_length);
+
+/* Writes the records of the file as a text table, in the order of their starts, those with equal starts in the order of the file.
+ * Written: returns OCTALMURE_WRITTEN, and the front of the output is the table, of as many bytes as the code says. An import of it
+ *   with the same file gives that file back, byte by byte.
+ * Refused: returns OCTALMURE_REFUSED. A file that check refuses is refused in the same way; then come 14 and 11, in this order.
+ *   Whether the run obeys the rules is not asked.
+ */
+uint32_t octalmure_export(const uint8_t *file, size_t file_length, uint8_t *output, size_t output_length, uint8_t *answer,
+                          size_t answer_length);
 
 /* ---- the same calls, guarded ---- */
 
 /* A guarded call returns OCTALMURE_REFUSED and touches no byte if
  * - a pointer is null and its length is not 0;
  * - a length is above PTRDIFF_MAX (as a negative number is, once it is a size_t), or leads past the last address;
- * - two of the slices share a byte. (Each pair has one that is written.)
+ * - two of the slices share a byte and one of them is written: any two but the file and the table of an import.
  * Otherwise it does what the plain call does. A slice of length 0 shares no byte, and its pointer may be null. Whether a pointer
  * leads to memory of its length cannot be seen: that remains for the caller.
  *
@@ -164,6 +198,33 @@ static inline uint32_t octalmure_guarded_carry(const uint8_t *file, size_t file_
     }
     return octalmure_carry(file ? file : &nothing, file_length, horizon, output ? output : &nothing, output_length,
                            answer ? answer : &nothing, answer_length);
+}
+
+static inline uint32_t octalmure_guarded_import(const uint8_t *file, size_t file_length, const uint8_t *table, size_t table_length,
+                                                uint8_t *output, size_t output_length, uint8_t *answer, size_t answer_length) {
+    uint8_t nothing = 0;
+    if (!octalmure_is_slice(file, file_length) || !octalmure_is_slice(table, table_length) ||
+        !octalmure_is_slice(output, output_length) || !octalmure_is_slice(answer, answer_length) ||
+        !octalmure_apart(file, file_length, output, output_length) || !octalmure_apart(table, table_length, output, output_length) ||
+        !octalmure_apart(file, file_length, answer, answer_length) || !octalmure_apart(table, table_length, answer, answer_length) ||
+        !octalmure_apart(output, output_length, answer, answer_length)) {
+        return OCTALMURE_REFUSED;
+    }
+    return octalmure_import(file ? file : &nothing, file_length, table ? table : &nothing, table_length, output ? output : &nothing,
+                            output_length, answer ? answer : &nothing, answer_length);
+}
+
+static inline uint32_t octalmure_guarded_export(const uint8_t *file, size_t file_length, uint8_t *output, size_t output_length,
+                                                uint8_t *answer, size_t answer_length) {
+    uint8_t nothing = 0;
+    if (!octalmure_is_slice(file, file_length) || !octalmure_is_slice(output, output_length) ||
+        !octalmure_is_slice(answer, answer_length) || !octalmure_apart(file, file_length, output, output_length) ||
+        !octalmure_apart(file, file_length, answer, answer_length) ||
+        !octalmure_apart(output, output_length, answer, answer_length)) {
+        return OCTALMURE_REFUSED;
+    }
+    return octalmure_export(file ? file : &nothing, file_length, output ? output : &nothing, output_length,
+                            answer ? answer : &nothing, answer_length);
 }
 
 /* ---- numbers, and reading an answer ---- */
@@ -209,11 +270,14 @@ static inline const char *octalmure_refusal_text(uint32_t refusal) {
     case OCTALMURE_REFUSAL_TASK_COUNT: return "task count out of range";
     case OCTALMURE_REFUSAL_TASK_RANGE: return "a task out of its ranges";
     case OCTALMURE_REFUSAL_TOO_MANY_JOBS: return "more than 512 jobs";
-    case OCTALMURE_REFUSAL_RECORD_COUNT: return "record count above 512";
+    case OCTALMURE_REFUSAL_RECORD_COUNT: return "more than 512 records";
     case OCTALMURE_REFUSAL_TRAILING_BYTES: return "bytes after the last section";
     case OCTALMURE_REFUSAL_NEW_HORIZON: return "the new horizon is below H or above 1,000,000";
     case OCTALMURE_REFUSAL_BROKEN_RUN: return "the run to be carried breaks a rule";
     case OCTALMURE_REFUSAL_SHORT_OUTPUT: return "a lent output is too short";
+    case OCTALMURE_REFUSAL_BAD_LINE: return "a bad line in the table";
+    case OCTALMURE_REFUSAL_REPEATED_JOB: return "a task and job already given by an earlier line of the table";
+    case OCTALMURE_REFUSAL_NOT_RISING: return "the records do not rise strictly by task and job";
     default: return "no such refusal";
     }
 }

@@ -30,5 +30,5 @@ static void try_texts(Count *sum, const char *(*text)(uint32_t), uint32_t last, 
 void try_answers(Count *sum) {
     try_decoding(sum);
     try_texts(sum, octalmure_rule_text, OCTALMURE_RULES_END - 1, "no such rule");
-    try_texts(sum, octalmure_refusal_text, OCTALMURE_REFUSAL_SHORT_OUTPUT, "no such refusal");
+    try_texts(sum, octalmure_refusal_text, OCTALMURE_REFUSAL_NOT_RISING, "no such refusal");
 }

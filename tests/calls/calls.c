@@ -1,88 +1,138 @@
-/* calls C2.run C9.run: tries the guarded calls, and what else the header has. Its last line is 'N passed, M failed'. */
+/* calls C2.run C2.csv C9.run: tries the guarded calls, and what else the header has. Its last line is 'N passed, M failed'. */
 #include <octalmure.h>
 #include <stdio.h>
 #include <stdlib.h>
+#include <string.h>
 
 #include "trial.h"
 
-enum { C2_BYTES = 196, CARRIED_BYTES = 220, FILE_AT = 700 };
+enum { C2_BYTES = 196, C2_TABLE_BYTES = 86, CARRIED_BYTES = 220, RUN_AT = 700 };
 
-static uint8_t c2[OCTALMURE_MOST_FILE_BYTES], c9[OCTALMURE_MOST_FILE_BYTES];
+static uint8_t c2[OCTALMURE_MOST_FILE_BYTES], c2_table[OCTALMURE_MOST_FILE_BYTES], c9[OCTALMURE_MOST_FILE_BYTES];
 
-static const Call whole_check = {.file = {FILE_AT, C2_BYTES, false}, .answer = {100, OCTALMURE_ANSWER_BYTES, false}};
-static const Call whole_carry = {.carry = true,
-                                 .horizon = 20,
-                                 .file = {FILE_AT, C2_BYTES, false},
-                                 .output = {1200, CARRIED_BYTES, false},
-                                 .answer = {100, OCTALMURE_ANSWER_BYTES, false}};
+/* A call of each kind whose slices are apart, and long enough. */
+#define ALL_BUT_OUTPUT \
+    [RUN] = {RUN_AT, C2_BYTES, false}, [TABLE] = {300, C2_TABLE_BYTES, false}, [ANSWER] = {100, OCTALMURE_ANSWER_BYTES, false}
+static const Call whole[KINDS] = {
+    [CHECK] = {.kind = CHECK, .slices = {ALL_BUT_OUTPUT}},
+    [CARRY] = {.kind = CARRY, .horizon = 20, .slices = {ALL_BUT_OUTPUT, [OUTPUT] = {1200, CARRIED_BYTES, false}}},
+    [IMPORT] = {.kind = IMPORT, .slices = {ALL_BUT_OUTPUT, [OUTPUT] = {1200, C2_BYTES, false}}},
+    [EXPORT] = {.kind = EXPORT, .slices = {ALL_BUT_OUTPUT, [OUTPUT] = {1200, C2_TABLE_BYTES, false}}},
+};
 
 static void try_c2(Count *sum, const Call *call) {
-    try_call(sum, call, c2, C2_BYTES);
+    const Lent contents[OUTPUT] = {[RUN] = {c2, C2_BYTES}, [TABLE] = {c2_table, C2_TABLE_BYTES}};
+    try_call(sum, call, contents);
 }
 
-/* The answer at every place of the room. */
-static void sweep_answer(Count *sum, Call call) {
-    for (call.answer.at = 0; call.answer.at + call.answer.length <= ROOM; call.answer.at++) {
+/* One slice at every place of the room. */
+static void sweep(Count *sum, Call call, Part part) {
+    Slice *slice = &call.slices[part];
+    for (slice->at = 0; slice->at + slice->length <= ROOM; slice->at++) {
         try_c2(sum, &call);
     }
 }
 
-/* The output before, at, in, over and behind each end of the file, with the answer everywhere. */
-static void sweep_output(Count *sum) {
-    size_t front = FILE_AT - CARRIED_BYTES, back = FILE_AT + C2_BYTES;
-    size_t places[] = {front - 50, front, front + 1, FILE_AT - 1, FILE_AT, FILE_AT + 1, back - 1, back, back + 50};
+/* One slice before, at, in, over and behind each end of another, with the answer everywhere. */
+static void sweep_around(Count *sum, Kind kind, Part part, Part other) {
+    Call call = whole[kind];
+    Slice *slice = &call.slices[part];
+    size_t begin = call.slices[other].at, front = begin - slice->length, back = begin + call.slices[other].length;
+    size_t places[] = {front - 50, front, front + 1, begin - 1, begin, begin + 1, back - 1, back, back + 50};
     for (size_t i = 0; i < sizeof places / sizeof places[0]; i++) {
-        Call call = whole_carry;
-        call.output.at = places[i];
-        sweep_answer(sum, call);
+        slice->at = places[i];
+        sweep(sum, call, ANSWER);
     }
 }
 
-/* Slices of length 0, within the others and null; short and long ones. */
-static void try_lengths(Count *sum) {
-    static const size_t lengths[] = {0, 1, 19, 20, 21, C2_BYTES, CARRIED_BYTES};
-    for (size_t i = 0; i < sizeof lengths / sizeof lengths[0]; i++) {
-        Call check = whole_check, file = whole_carry, output = whole_carry, answer = whole_carry;
-        check.answer.length = file.file.length = output.output.length = answer.answer.length = lengths[i];
-        sweep_answer(sum, check);
-        for (size_t at = FILE_AT - 1; at <= FILE_AT + C2_BYTES; at++) {
-            file.file.at = output.output.at = answer.answer.at = at;
-            try_c2(sum, &file);
-            try_c2(sum, &output);
-            try_c2(sum, &answer);
+/* Each slice of each call at every place, the others where they are; and where three can meet, two of them. */
+static void try_places(Count *sum) {
+    for (Kind kind = CHECK; kind < KINDS; kind++) {
+        for (Part part = RUN; part < PARTS; part++) {
+            if (has(kind, part)) {
+                sweep(sum, whole[kind], part);
+            }
         }
-        file.file.null = output.output.null = answer.answer.null = check.answer.null = true;
-        try_c2(sum, &file);
-        try_c2(sum, &output);
-        try_c2(sum, &answer);
-        try_c2(sum, &check);
-        check = whole_check;
-        check.file.length = lengths[i];
-        check.file.null = true;
-        try_c2(sum, &check);
     }
+    sweep_around(sum, CARRY, OUTPUT, RUN);
+    sweep_around(sum, IMPORT, OUTPUT, RUN);
+    sweep_around(sum, IMPORT, OUTPUT, TABLE);
+    sweep_around(sum, IMPORT, TABLE, RUN);
+    sweep_around(sum, EXPORT, OUTPUT, RUN);
+}
+
+/* A slice of this length, within and beside the file, and null. */
+static void try_length(Count *sum, Kind kind, Part part, size_t length) {
+    Call call = whole[kind];
+    Slice *slice = &call.slices[part];
+    slice->length = length;
+    for (slice->at = RUN_AT - 1; slice->at <= RUN_AT + C2_BYTES; slice->at++) {
+        try_c2(sum, &call);
+    }
+    slice->null = true;
+    try_c2(sum, &call);
+}
+
+/* Slices of length 0, short and long ones. */
+static void try_lengths(Count *sum) {
+    static const size_t lengths[] = {0, 1, 19, 20, 21, C2_TABLE_BYTES - 1, C2_BYTES - 1, C2_BYTES, CARRIED_BYTES};
+    for (size_t i = 0; i < sizeof lengths / sizeof lengths[0]; i++) {
+        Call check = whole[CHECK];
+        check.slices[ANSWER].length = lengths[i];
+        sweep(sum, check, ANSWER);
+        for (Kind kind = CHECK; kind < KINDS; kind++) {
+            for (Part part = RUN; part < PARTS; part++) {
+                if (has(kind, part)) {
+                    try_length(sum, kind, part, lengths[i]);
+                }
+            }
+        }
+    }
+}
+
+static bool all_zero(const uint8_t *bytes, size_t length) {
+    bool zero = true;
+    for (size_t i = 0; i < length; i++) {
+        zero = zero && bytes[i] == 0;
+    }
+    return zero;
 }
 
 /* Lengths that no slice has. No memory is behind them: a call that went on would end the program. */
 static void try_impossible(Count *sum) {
     uint8_t *top = (uint8_t *)(UINTPTR_MAX - 7), own[CARRIED_BYTES] = {0}, answer[OCTALMURE_ANSWER_BYTES] = {0};
-    const struct {
-        uint8_t *pointer;
-        size_t length;
-    } bad[] = {{own, SIZE_MAX}, {own, (size_t)PTRDIFF_MAX + 1}, {top, 8}, {top, 20}, {top, SIZE_MAX}, {NULL, 1}, {NULL, SIZE_MAX}};
+    const Lent bad[] = {{own, SIZE_MAX}, {own, (size_t)PTRDIFF_MAX + 1}, {top, 8},        {top, 20},
+                        {top, SIZE_MAX}, {NULL, 1},                      {NULL, SIZE_MAX}};
     for (size_t i = 0; i < sizeof bad / sizeof bad[0]; i++) {
-        uint8_t *p = bad[i].pointer;
-        size_t n = bad[i].length;
-        bool stopped = octalmure_guarded_check(p, n, answer, 20) == 4 && octalmure_guarded_check(c2, C2_BYTES, p, n) == 4 &&
-                       octalmure_guarded_carry(p, n, 20, own, sizeof own, answer, 20) == 4 &&
-                       octalmure_guarded_carry(c2, C2_BYTES, 20, p, n, answer, 20) == 4 &&
-                       octalmure_guarded_carry(c2, C2_BYTES, 20, own, sizeof own, p, n) == 4;
-        for (size_t k = 0; k < sizeof own; k++) {
-            stopped = stopped && own[k] == 0 && answer[k % sizeof answer] == 0;
+        for (Kind kind = CHECK; kind < KINDS; kind++) {
+            for (Part part = RUN; part < PARTS; part++) {
+                Lent lent[PARTS] = {{c2, C2_BYTES}, {c2_table, C2_TABLE_BYTES}, {own, sizeof own}, {answer, sizeof answer}};
+                lent[part] = bad[i];
+                bool stopped = !has(kind, part) || call_guarded(kind, lent, 20) == OCTALMURE_REFUSED;
+                count(sum, stopped && all_zero(own, sizeof own) && all_zero(answer, sizeof answer),
+                      "a length that no slice has is not stopped, or a byte is touched");
+            }
         }
-        count(sum, stopped, "a length that no slice has is not stopped, or a byte is touched");
     }
     count(sum, octalmure_is_slice(top, 7) && octalmure_is_slice(own, 1), "what can be a slice is not let through");
+}
+
+/* File and table may be the same bytes: the front of C2, and a table in the place of its records, which may have any numbers. */
+static void try_shared(Count *sum) {
+    static const char text[] = "task,job,release,start,end,core\n0,0,10,15,170,2\n";
+    enum { FRONT = OCTALMURE_FILE_BYTES(4, 0), TEXT = sizeof text - 1, RECORDS = TEXT / OCTALMURE_RECORD_BYTES };
+    const struct octalmure_record record = {0, 0, 10, 15, 170, 2};
+    uint8_t file[FRONT + TEXT], expected[OCTALMURE_FILE_BYTES(4, 1)], output[sizeof expected], answer[OCTALMURE_ANSWER_BYTES];
+    memcpy(file, c2, FRONT);
+    octalmure_put_number(file + FRONT - OCTALMURE_NUMBER_BYTES, RECORDS);
+    memcpy(file + FRONT, text, TEXT);
+    memcpy(expected, c2, FRONT);
+    octalmure_put_record(octalmure_put_number(expected + FRONT - OCTALMURE_NUMBER_BYTES, 1), record);
+    uint32_t returned =
+        octalmure_guarded_import(file, sizeof file, file + FRONT, TEXT, output, sizeof output, answer, sizeof answer);
+    count(sum, returned == OCTALMURE_WRITTEN && octalmure_decode(answer).code == sizeof expected &&
+                   memcmp(output, expected, sizeof expected) == 0,
+          "a table that stands in its file is not imported");
 }
 
 static size_t read_file(const char *name, uint8_t *bytes) {
@@ -96,15 +146,15 @@ static size_t read_file(const char *name, uint8_t *bytes) {
 
 int main(int argc, char **argv) {
     Count sum = {0, 0, 0};
-    size_t c9_length = argc == 3 ? read_file(argv[2], c9) : 0;
-    if (c9_length == 0 || read_file(argv[1], c2) != C2_BYTES) {
-        fprintf(stderr, "usage: calls C2.run C9.run\n");
+    size_t c9_length = argc == 4 ? read_file(argv[3], c9) : 0;
+    if (c9_length == 0 || read_file(argv[1], c2) != C2_BYTES || read_file(argv[2], c2_table) != C2_TABLE_BYTES) {
+        fprintf(stderr, "usage: calls C2.run C2.csv C9.run\n");
         return 2;
     }
-    sweep_answer(&sum, whole_check);
-    sweep_output(&sum);
+    try_places(&sum);
     try_lengths(&sum);
     try_impossible(&sum);
+    try_shared(&sum);
     try_answers(&sum);
     try_making(&sum, c2, C2_BYTES, c9, c9_length);
     try_small_stack(&sum, c9, c9_length);

@@ -8,24 +8,37 @@
 
 enum { ROOM = 1600 };
 
+typedef enum { CHECK, CARRY, IMPORT, EXPORT, KINDS } Kind;
+/* The slices that a call may have: those that are read, and from OUTPUT on those that are written. */
+typedef enum { RUN, TABLE, OUTPUT, ANSWER, PARTS } Part;
+
 typedef struct {
     size_t at, length; /* where it stands in the room */
     bool null;         /* the pointer is null instead */
 } Slice;
 
 typedef struct {
-    bool carry; /* check otherwise, which has no output */
+    Kind kind;
     uint32_t horizon;
-    Slice file, output, answer;
+    Slice slices[PARTS];
 } Call;
+
+typedef struct {
+    uint8_t *pointer;
+    size_t length;
+} Lent;
 
 typedef struct {
     unsigned long passed, failed, guarded; /* guarded: stopped by the guard, as it must be */
 } Count;
 
 void count(Count *sum, bool right, const char *what);
-/* Tries the call; the contents stand where the file does, as far as its length goes. */
-void try_call(Count *sum, const Call *call, const uint8_t *contents, size_t length);
+
+/* Whether calls of this kind have such a slice. */
+bool has(Kind kind, Part part);
+uint32_t call_guarded(Kind kind, const Lent lent[PARTS], uint32_t horizon);
+/* Tries the call; the contents stand where the slices that are read do, as far as their lengths go. */
+void try_call(Count *sum, const Call *call, const Lent contents[OUTPUT]);
 
 /* The other tests of the program. */
 void try_answers(Count *sum);
