@@ -3,23 +3,17 @@
 #include "input.h"
 #include "library.h"
 #include "words.h"
+#include "written.h"
 
-/* The carried file, to OUT; a refusal's line, to standard output. */
 static Status run(const Asked *asked, Output *output) {
     Horizon horizon;
     Input input;
     uint8_t carried[OCTALMURE_MOST_FILE_BYTES];
-    if (read_horizon(asked->given[1], &horizon) != FINE || read_input(asked->given[0], &input) != FINE) {
+    if (read_horizon(asked->given[1], &horizon) != FINE || read_run(asked->given[0], &input) != FINE) {
         return TROUBLE;
     }
     struct octalmure_answer answer = carry_bytes(input.bytes, input.length, horizon.number, carried);
-    if (answer.answer == OCTALMURE_CARRIED) {
-        output->place = asked->out;
-        fwrite(carried, 1, answer.code, output->text);
-    } else {
-        print_line(output->text, &answer);
-    }
-    return status_of(&answer);
+    return give_written(&answer, carried, asked->out, output);
 }
 
 const Word carry_word = {
@@ -29,8 +23,7 @@ const Word carry_word = {
     .help = "Carries the run in FILE to HORIZON, which is at least the file's H, and writes the carried run as a\n"
             "run file to standard output: every record that starts before H stands in it unchanged, and the\n"
             "checker accepts it.\n"
-            "  -o OUT  writes it to the file OUT instead, under another name first, so that OUT is whole or\n"
-            "          untouched; '-o -' is standard output\n"
+            HELP_OF_OUT
             "Where the carry is refused, the five numbers of the refusal are printed on standard output and\n"
             "nothing else, OUT is untouched, and the exit status is 3. A run that breaks a rule is refused with\n"
             "10; 'octalmure check FILE' tells which rule.\n",

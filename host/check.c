@@ -5,7 +5,7 @@
 
 static Status run(const Asked *asked, Output *output) {
     Input input;
-    if (read_input(asked->given[0], &input) != FINE) {
+    if (read_run(asked->given[0], &input) != FINE) {
         return TROUBLE;
     }
     struct octalmure_answer answer = check_bytes(input.bytes, input.length);

@@ -2,14 +2,13 @@
 
 #include <errno.h>
 #include <fcntl.h>
-#include <stdbool.h>
 #include <string.h>
 #include <unistd.h>
 
-/* Reads to the end of the input or of the room. A read that gives less than was asked for is no end. */
-static bool fill(int from, Input *input) {
-    while (input->length < MOST_INPUT) {
-        ssize_t got = read(from, input->bytes + input->length, MOST_INPUT - input->length);
+/* Reads to the end of the input, or so many bytes. A read that gives less than was asked for is no end. */
+static bool fill(int from, size_t most, Input *input) {
+    while (input->length < most) {
+        ssize_t got = read(from, input->bytes + input->length, most - input->length);
         if (got == 0) {
             return true;
         }
@@ -22,17 +21,29 @@ static bool fill(int from, Input *input) {
     return true;
 }
 
-Status read_input(const char *name, Input *input) {
-    bool standard = strcmp(name, "-") == 0;
+static Status read_most(const char *name, size_t most, Input *input) {
+    bool standard = is_standard(name);
     input->name = standard ? "standard input" : name;
     input->length = 0;
     int from = standard ? STDIN_FILENO : open(name, O_RDONLY | O_CLOEXEC | O_NOCTTY);
     if (from < 0) {
         return system_trouble(input->name, errno);
     }
-    Status status = fill(from, input) ? FINE : system_trouble(input->name, errno);
+    Status status = fill(from, most, input) ? FINE : system_trouble(input->name, errno);
     if (!standard) {
         close(from);
     }
     return status;
+}
+
+bool is_standard(const char *name) {
+    return strcmp(name, "-") == 0;
+}
+
+Status read_run(const char *name, Input *input) {
+    return read_most(name, MOST_RUN, input);
+}
+
+Status read_table(const char *name, Input *input) {
+    return read_most(name, MOST_TABLE, input);
 }

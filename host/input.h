@@ -1,21 +1,30 @@
-/* The bytes of a file: all of them, or as many as show that it is too long. */
+/* The bytes of a run file or of a text table: all of them, or as many as show that it is too long. */
 #ifndef OCTALMURE_INPUT_H
 #define OCTALMURE_INPUT_H
 
 #include <octalmure.h>
+#include <stdbool.h>
 
 #include "status.h"
 
-/* One byte past the longest file: it shows that there are too many, and no later one can alter the answer. */
-enum { MOST_INPUT = OCTALMURE_MOST_FILE_BYTES + 1 };
+/* How much of each is read. No later byte can alter the answer:
+   - of a run file, one byte past the longest shows that there are too many;
+   - of a table, one line past the longest: of the lines that end within these bytes either one is refused, or they are the header and
+     at most 512 good ones. Then the next line begins no later than the longest table ends, and what is read of it is already as
+     long as a line can be: it is bad, whatever follows. */
+enum { MOST_RUN = OCTALMURE_MOST_FILE_BYTES + 1, MOST_TABLE = OCTALMURE_MOST_TABLE_BYTES + OCTALMURE_MOST_LINE_BYTES };
 
 typedef struct {
-    const char *name; /* what it is called where something is said of it */
-    uint8_t bytes[MOST_INPUT];
+    const char *name;          /* what it is called where something is said of it */
+    uint8_t bytes[MOST_TABLE]; /* for a run file only the front is used */
     size_t length;
 } Input;
 
-/* Reads the file of this name, or standard input for '-'. FINE, or TROUBLE once it was said why it cannot be read. */
-Status read_input(const char *name, Input *input);
+/* Whether this name is '-', which stands for standard input. */
+bool is_standard(const char *name);
+
+/* Read the run file or the table of this name, or standard input for '-'. FINE, or TROUBLE once it was said why it cannot be read. */
+Status read_run(const char *name, Input *input);
+Status read_table(const char *name, Input *input);
 
 #endif

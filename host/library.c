@@ -20,12 +20,26 @@ struct octalmure_answer carry_bytes(const uint8_t *file, size_t length, uint32_t
     return octalmure_decode(answer);
 }
 
+struct octalmure_answer import_bytes(const uint8_t *file, size_t length, const uint8_t *table, size_t table_length, uint8_t *output) {
+    uint8_t answer[OCTALMURE_ANSWER_BYTES];
+    memset(answer, UNTOLD, sizeof answer);
+    octalmure_guarded_import(file, length, table, table_length, output, OCTALMURE_MOST_FILE_BYTES, answer, sizeof answer);
+    return octalmure_decode(answer);
+}
+
+struct octalmure_answer export_bytes(const uint8_t *file, size_t length, uint8_t *output) {
+    uint8_t answer[OCTALMURE_ANSWER_BYTES];
+    memset(answer, UNTOLD, sizeof answer);
+    octalmure_guarded_export(file, length, output, OCTALMURE_MOST_TABLE_BYTES, answer, sizeof answer);
+    return octalmure_decode(answer);
+}
+
 Status status_of(const struct octalmure_answer *answer) {
     switch (answer->answer) {
     case OCTALMURE_NONE_LATE:
     case OCTALMURE_LATE_BEFORE_H:
     case OCTALMURE_LATE_FROM_H:
-    case OCTALMURE_CARRIED: return FINE;
+    case OCTALMURE_WRITTEN: return FINE;
     case OCTALMURE_BROKEN: return BROKEN;
     case OCTALMURE_REFUSED: return REFUSED;
     default: return trouble("the library", "its answer is none of the listed ones");

@@ -29,7 +29,7 @@ static Status run(const Asked *asked, Output *output) {
     Horizon horizon;
     Input input;
     bool on = asked->count > 1;
-    if ((on && read_horizon(asked->given[1], &horizon) != FINE) || read_input(asked->given[0], &input) != FINE) {
+    if ((on && read_horizon(asked->given[1], &horizon) != FINE) || read_run(asked->given[0], &input) != FINE) {
         return TROUBLE;
     }
     Layout layout = layout_of(input.bytes, input.length);

@@ -10,7 +10,7 @@
 
 static void show_size(FILE *out, const Input *input) {
     put_visible(out, input->name);
-    if (input->length < MOST_INPUT) {
+    if (input->length < MOST_RUN) {
         fprintf(out, ": %zu bytes\n", input->length);
     } else {
         fprintf(out, ": more than %d bytes\n", OCTALMURE_MOST_FILE_BYTES);
@@ -19,7 +19,7 @@ static void show_size(FILE *out, const Input *input) {
 
 static Status run(const Asked *asked, Output *output) {
     Input input;
-    if (read_input(asked->given[0], &input) != FINE) {
+    if (read_run(asked->given[0], &input) != FINE) {
         return TROUBLE;
     }
     struct octalmure_answer answer = check_bytes(input.bytes, input.length);

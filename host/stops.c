@@ -35,7 +35,7 @@ static void say_task(FILE *out, const Layout *layout, uint32_t number) {
 static void say_trailing(FILE *out, const Layout *layout) {
     size_t more = layout->length - layout->begin;
     fprintf(out, "The last section ends after %zu bytes, and %s%zu more %s.\n", layout->begin,
-            layout->length < MOST_INPUT ? "" : "at least ", more, more == 1 ? "follows" : "follow");
+            layout->length < MOST_RUN ? "" : "at least ", more, more == 1 ? "follows" : "follow");
 }
 
 void say_where_it_stops(FILE *out, const Layout *layout, const struct octalmure_answer *answer) {
@@ -51,7 +51,7 @@ void say_where_it_stops(FILE *out, const Layout *layout, const struct octalmure_
     case OCTALMURE_REFUSAL_TOO_MANY_JOBS:
         fprintf(out, "Its tasks have that many before H = %" PRIu32 ".\n", layout->setting.horizon);
         break;
-    case OCTALMURE_REFUSAL_RECORD_COUNT: fprintf(out, "It is %" PRIu32 ".\n", layout->record_count); break;
+    case OCTALMURE_REFUSAL_RECORD_COUNT: fprintf(out, "The record count is %" PRIu32 ".\n", layout->record_count); break;
     case OCTALMURE_REFUSAL_TRAILING_BYTES: say_trailing(out, layout); break;
     default: break;
     }

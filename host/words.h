@@ -12,7 +12,7 @@ enum { MOST_GIVEN = 2 };
 
 /* What was asked for, behind the word. */
 typedef struct {
-    const char *given[MOST_GIVEN]; /* FILE, and perhaps a horizon */
+    const char *given[MOST_GIVEN]; /* FILE, and perhaps a horizon or a table */
     size_t count;
     const char *out; /* of '-o OUT'; NULL if there is none */
 } Asked;
@@ -27,8 +27,13 @@ typedef struct {
     Status (*run)(const Asked *asked, Output *output);
 } Word;
 
+/* What the help of a word that writes says of -o OUT. */
+#define HELP_OF_OUT                                                                                     \
+    "  -o OUT  writes it to the file OUT instead, under another name first, so that OUT is whole or\n" \
+    "          untouched; '-o -' is standard output\n"
+
 /* In the order in which they are listed. A word to come is a line here, its name in words.c, and its file. */
-extern const Word check_word, carry_word, show_word, say_word;
+extern const Word check_word, carry_word, show_word, say_word, import_word, export_word;
 
 /* NULL if there is no such word. */
 const Word *find_word(const char *name);

@@ -1,6 +1,7 @@
 #include "damage.h"
 
 #include <octalmure.h>
+#include <string.h>
 
 static const uint32_t borders[] = {0,   1,   2,      3,       16,      17,         32,             33,
                                    512, 513, 999999, 1000000, 1000001, 0x7FFFFFFF, UINT32_MAX - 1, UINT32_MAX};
@@ -83,4 +84,25 @@ void make_noise(Case *made, Chance *chance) {
         octalmure_put_number(made->file, 2);
     }
     made->horizon = any_number(chance);
+}
+
+/* ---- tables ---- */
+
+size_t damage_table(uint8_t *table, size_t length, size_t room, Chance *chance) {
+    static const char met[] = "0123456789,,\n\n\r \"+-;";
+    const uint8_t *line = length > 0 ? memchr(table, '\n', length) : NULL;
+    size_t lines = line != NULL ? (size_t)(table + length - line) - 1 : 0;
+    switch (below(chance, 4)) {
+    case 0: return length > 0 ? below(chance, length) : 0;
+    case 1: {
+        size_t more = lines < room - length ? lines : room - length;
+        memcpy(table + length, table + length - lines, more);
+        return length + more;
+    }
+    default:
+        for (uint32_t left = between(chance, 1, 2); left > 0 && length > 0; left--) {
+            table[below(chance, length)] = (uint8_t)met[below(chance, sizeof met - 1)];
+        }
+        return length;
+    }
 }

@@ -1,6 +1,7 @@
 /* harness PATH SEED COUNT RUN...: runs the words of the command on files of every kind in this process, and asks of each what must
-   hold of every file. PATH is where the files are written; the first that fails stays at PATH.wrong. Of each run the front of every
-   length is tried, of a long one of every 101st. Its last line is 'N passed, M failed'. */
+   hold of every file. PATH is where the files are written, and PATH.csv where tables are; the first that fails stays at PATH.wrong,
+   with its table at PATH.wrong.csv. Of each run the front of every length is tried, of a long one of every 101st. Its last line is
+   'N passed, M failed'. */
 #include <inttypes.h>
 #include <octalmure.h>
 #include <stdio.h>
@@ -9,10 +10,11 @@
 #include <unistd.h>
 
 #include "damage.h"
+#include "exchange.h"
 #include "oracle.h"
 #include "spoken.h"
 
-enum { SHORT_RUN = 1000, LONG_STEP = 101, MOST_REPORTS = 20 };
+enum { SHORT_RUN = 1000, LONG_STEP = 101, MOST_REPORTS = 20, TABLE_ROOM = 2 * OCTALMURE_MOST_TABLE_BYTES };
 
 /* What COLUMNS says, NULL for nothing, and how wide a picture may then be: 40 at least, and 80 if it says nothing of use. */
 static const struct {
@@ -22,9 +24,15 @@ static const struct {
               {"333", 333}, {"999999", 999999}, {"1", 40},    {"0", 40},  {"", 80},     {"8O", 80}, {NULL, 80}};
 enum { WIDTHS = sizeof widths / sizeof widths[0] };
 
-static unsigned long passed, failed, answers[OCTALMURE_CARRIED + 1], fine, coarse;
+static unsigned long passed, failed, answers[OCTALMURE_WRITTEN + 1], fine, coarse;
+static unsigned long exported, imported, refused[OCTALMURE_REFUSAL_NOT_RISING + 1]; /* refused: of files that are not, for a table */
 static const char *path;
+static char table_path[4096];
 static FILE *said;
+
+/* The table of the last file that had one, or what damage made of it. */
+static uint8_t table[TABLE_ROOM];
+static size_t table_length;
 
 /* ---- a file ---- */
 
@@ -44,6 +52,8 @@ static void hold(const Case *made, bool right, const char *what) {
     if (!right && failed == 1) {
         snprintf(wrong, sizeof wrong, "%s.wrong", path);
         write_bytes(wrong, made->file, made->length);
+        snprintf(wrong, sizeof wrong, "%s.wrong.csv", path);
+        write_bytes(wrong, table, table_length);
     }
     if (!right && failed <= MOST_REPORTS) {
         fprintf(said, "harness: %s (%zu bytes, to %" PRIu32 ", COLUMNS %s)\n", what, made->length, made->horizon,
@@ -75,6 +85,14 @@ static bool is_line(const Spoken *spoken, struct octalmure_answer a) {
     return strcmp(spoken->text, line) == 0;
 }
 
+/* What was written, or the line. */
+static bool is_written(const Spoken *spoken, struct octalmure_answer answer, const uint8_t *written) {
+    if (answer.answer != OCTALMURE_WRITTEN) {
+        return is_line(spoken, answer);
+    }
+    return spoken->length == answer.code && memcmp(spoken->text, written, answer.code) == 0;
+}
+
 /* ---- the words ---- */
 
 static void try_check(const Case *made, struct octalmure_answer answer) {
@@ -93,8 +111,7 @@ static Status try_carry(const Case *made, const char *horizon, size_t *late) {
     Spoken spoken = speak("carry", path, horizon);
     answers[OCTALMURE_CARRIED] += carried;
     hold(made, spoken.status == status_for(answer.answer) && spoken.quiet, "carry: another status, or not quiet");
-    hold(made, carried ? spoken.length == answer.code && memcmp(spoken.text, output, answer.code) == 0 : is_line(&spoken, answer),
-         "carry: not the file, or not the line");
+    hold(made, is_written(&spoken, answer, output), "carry: not the file, or not the line");
     free(spoken.text);
     *late = carried ? late_of(check_of(output, answer.code)) : 0;
     return status_for(answer.answer);
@@ -140,6 +157,49 @@ static void try_show(const Case *made, struct octalmure_answer answer, size_t wi
     free(spoken.text);
 }
 
+/* Gives whether the records of the file became the table. */
+static bool try_export(const Case *made, struct octalmure_answer checked) {
+    uint8_t output[OCTALMURE_MOST_TABLE_BYTES], bytes[OCTALMURE_ANSWER_BYTES];
+    oracle_export(made->file, made->length, output, sizeof output, bytes, sizeof bytes);
+    struct octalmure_answer answer = octalmure_decode(bytes);
+    bool written = answer.answer == OCTALMURE_WRITTEN;
+    Spoken spoken = speak("export", path, NULL);
+    hold(made, spoken.status == status_for(answer.answer) && spoken.quiet, "export: another status, or not quiet");
+    hold(made, is_written(&spoken, answer, output), "export: not the table, or not the line");
+    hold(made, is_plain(&spoken), "export: no plain text");
+    free(spoken.text);
+    exported += written;
+    refused[answer.answer == OCTALMURE_REFUSED ? answer.code : 0] += checked.answer != OCTALMURE_REFUSED;
+    if (written) {
+        table_length = answer.code;
+        memcpy(table, output, table_length);
+    }
+    return written;
+}
+
+/* The table with the file; it must be the file again where it came from it. All of the table is judged, however long it is. */
+static void try_import(const Case *made, struct octalmure_answer checked, bool again) {
+    uint8_t output[OCTALMURE_MOST_FILE_BYTES], bytes[OCTALMURE_ANSWER_BYTES];
+    write_bytes(table_path, table, table_length);
+    oracle_import(made->file, made->length, table, table_length, output, sizeof output, bytes, sizeof bytes);
+    struct octalmure_answer answer = octalmure_decode(bytes);
+    Spoken spoken = speak("import", path, table_path);
+    hold(made, spoken.status == status_for(answer.answer) && spoken.quiet, "import: another status, or not quiet");
+    hold(made, is_written(&spoken, answer, output), "import: not the file, or not the line");
+    hold(made, !again || (spoken.length == made->length && memcmp(spoken.text, made->file, made->length) == 0),
+         "import: not the file that was exported");
+    free(spoken.text);
+    imported += answer.answer == OCTALMURE_WRITTEN;
+    refused[answer.answer == OCTALMURE_REFUSED ? answer.code : 0] += checked.answer != OCTALMURE_REFUSED;
+}
+
+static void try_tables(const Case *made, struct octalmure_answer checked) {
+    static Chance chance;
+    try_import(made, checked, try_export(made, checked));
+    table_length = damage_table(table, table_length, sizeof table, &chance);
+    try_import(made, checked, false);
+}
+
 /* At two widths, which change from file to file. */
 static void try_file(const Case *made) {
     static size_t width;
@@ -148,6 +208,7 @@ static void try_file(const Case *made) {
     answers[answer.answer]++;
     try_check(made, answer);
     try_say(made, answer);
+    try_tables(made, answer);
     try_show(made, answer, width++ % WIDTHS);
     try_show(made, answer, width % WIDTHS);
 }
@@ -191,6 +252,24 @@ static void try_seed(uint64_t seed, uint64_t count) {
     }
 }
 
+/* How often each answer was met, and each refusal that a table adds: none may be missing. */
+static void print_met(void) {
+    static const uint32_t of_tables[] = {OCTALMURE_REFUSAL_RECORD_COUNT, OCTALMURE_REFUSAL_BAD_LINE, OCTALMURE_REFUSAL_REPEATED_JOB,
+                                         OCTALMURE_REFUSAL_NOT_RISING};
+    for (size_t i = 0; i <= OCTALMURE_WRITTEN; i++) {
+        fprintf(said, "harness: answer %zu: %lu files\n", i, answers[i]);
+        failed += answers[i] == 0;
+    }
+    fprintf(said, "harness: %lu tables exported, %lu imported\n", exported, imported);
+    failed += exported == 0 || imported == 0;
+    for (size_t i = 0; i < sizeof of_tables / sizeof of_tables[0]; i++) {
+        fprintf(said, "harness: refusal %" PRIu32 " for a table: %lu\n", of_tables[i], refused[of_tables[i]]);
+        failed += refused[of_tables[i]] == 0;
+    }
+    fprintf(said, "harness: %lu pictures in which a tick has several columns, %lu others\n", fine, coarse);
+    failed += fine == 0 || coarse == 0;
+}
+
 /* What the words are not to write to takes the place of standard output; this program speaks on what it was. */
 static void set_standard_output_aside(void) {
     FILE *empty = tmpfile();
@@ -207,17 +286,13 @@ int main(int argc, char **argv) {
         return 2;
     }
     path = argv[1];
+    snprintf(table_path, sizeof table_path, "%s.csv", path);
     set_standard_output_aside();
     try_seed(strtoull(argv[2], NULL, 10), strtoull(argv[3], NULL, 10));
     for (int i = 4; i < argc; i++) {
         try_fronts(argv[i]);
     }
-    for (size_t i = 0; i <= OCTALMURE_CARRIED; i++) {
-        fprintf(said, "harness: answer %zu: %lu files\n", i, answers[i]);
-        failed += answers[i] == 0;
-    }
-    fprintf(said, "harness: %lu pictures in which a tick has several columns, %lu others\n", fine, coarse);
-    failed += fine == 0 || coarse == 0;
+    print_met();
     fprintf(said, "%lu passed, %lu failed\n", passed, failed);
     return failed == 0 ? EXIT_SUCCESS : EXIT_FAILURE;
 }

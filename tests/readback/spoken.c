@@ -17,13 +17,13 @@ static bool standard_output_is_empty(void) {
     return fstat(STDOUT_FILENO, &about) == 0 && about.st_size == 0;
 }
 
-Spoken speak(const char *word, const char *file, const char *horizon) {
+Spoken speak(const char *word, const char *file, const char *behind) {
     Spoken spoken = {0};
     Output output;
     char *errors = NULL;
     size_t errors_length = 0;
     FILE *kept = stderr;
-    Asked asked = {.given = {file, horizon}, .count = horizon != NULL ? 2 : 1};
+    Asked asked = {.given = {file, behind}, .count = behind != NULL ? 2 : 1};
     if (open_output(&output) != FINE || (stderr = open_memstream(&errors, &errors_length)) == NULL) {
         abort();
     }

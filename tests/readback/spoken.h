@@ -15,8 +15,9 @@ typedef struct {
     bool quiet; /* nothing went to standard output or standard error */
 } Spoken;
 
-/* Runs a word as the command does, in this process. A horizon may be NULL. Standard output must be a file. */
-Spoken speak(const char *word, const char *file, const char *horizon);
+/* Runs a word as the command does, in this process. What stands behind the file, a horizon or a table, may be NULL. Standard output
+   must be a file. */
+Spoken speak(const char *word, const char *file, const char *behind);
 
 /* Whole lines of ASCII, at least one, and no other control byte than their line feeds. */
 bool is_plain(const Spoken *spoken);

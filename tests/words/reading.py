@@ -4,22 +4,23 @@ import subprocess
 
 from trial import NOBODY, seen, text, told
 
-# each word with what stands behind FILE
-WORDS = (("check",), ("carry", "30"), ("show",), ("say",), ("say", "30"))
+# each word with what stands behind it; None is the file that is in question
+WORDS = (("check", None), ("carry", None, "30"), ("show", None), ("say", None), ("say", None, "30"), ("import", None, "c1.csv"),
+         ("import", "c1.run", None), ("export", None))
 C1 = b"1 1 0 0 0\n"
 MOST_READ = 12949
 
 
-def asked(word, name, *before):
-    return [word[0], *before, name, *word[1:]]
+def asked(word, name):
+    return [name if part is None else part for part in word]
 
 
 def trouble(room, name, reason, shown=None, **how):
     """Every word names the file and the reason, exits with 2, and leaves standard output empty."""
     for word in WORDS:
-        done = room.run(*asked(word, name), **how)
-        said = f"octalmure: {shown or name}: {reason}\n"
-        yield f"{' '.join(map(str, asked(word, name)))}: {seen(done)}", told(done, 2, b"", said)
+        words = asked(word, name)
+        done = room.run(*words, **how)
+        yield f"{words}: {seen(done)}", told(done, 2, b"", f"octalmure: {shown or name}: {reason}\n")
 
 
 def unreadable(room):
@@ -40,23 +41,41 @@ def unreadable(room):
 
 def names(room):
     """A name that begins with '-' is an option unless it stands after '--' or a folder; '-' is standard input."""
-    c1, c9 = (room.runs / "c1.run").read_bytes(), (room.runs / "c9.run").read_bytes()
-    made = [room.file("-x.run", c1), room.file("-", c9), room.file("--help", c1)]
+    c1, c9, table = ((room.runs / name).read_bytes() for name in ("c1.run", "c9.run", "c1.csv"))
+    made = [room.file("-x.run", c1), room.file("-", c9), room.file("--help", c1), room.file("-x.csv", table)]
     for words in (["check", "--", "-x.run"], ["check", "./-x.run"], ["check", "--", "--help"], ["check", str(room.runs / "-x.run")]):
         done = room.run(*words)
         yield f"{words}: {seen(done)}", told(done, 0, C1, "")
     done = room.run("carry", "--", "-x.run", "30")
     yield f"carry -- -x.run 30: {seen(done)}", told(done, 0, (room.runs / "c4.run").read_bytes(), "")
+    for words, written in ((["import", "--", "-x.run", "-x.csv"], c1), (["export", "--", "-x.run"], table)):
+        done = room.run(*words)
+        yield f"{words}: {seen(done)}", told(done, 0, written, "")
     done = room.run("check", "./-")
     yield f"check ./-: {seen(done)}", told(done, 0, b"0 0 0 0 0\n", "")
     for words in (["check", "-"], ["check", "--", "-"]):
         done = room.run(*words, input=c1)
         yield f"{words} with C1 on standard input: {seen(done)}", told(done, 0, C1, "")
-    for words in (["check", "-x.run"], ["carry", "-x.run", "30"], ["show", "-x.run"], ["say", "-x.run"]):
+    for words, given, written in ((["import", "-", "c1.csv"], c1, c1), (["import", "c1.run", "-"], table, c1),
+                                  (["export", "-"], c1, table)):
+        done = room.run(*words, input=given)
+        yield f"{words}: {seen(done)}", told(done, 0, written, "")
+    for words in (["import", "-", "-"], ["import", "--", "-", "-"]):
+        done = room.run(*words, input=c1)
+        yield f"{words}: {seen(done)}", told(done, 2, b"", "octalmure: -: FILE and TABLE cannot both be standard input\n")
+    for words in (asked(word, "-x.run") for word in WORDS):
         done = room.run(*words)
         yield f"{words}: {seen(done)}", done.returncode == 2 and done.stdout == b"" and "--" in text(done.stderr)
     for path in made:
         path.unlink()
+
+
+def nothing(room):
+    """Standard input without a byte is a file, and a table, that is refused."""
+    for words in (asked(word, "-") for word in WORDS):
+        line = None if words[0] in ("show", "say") else b"4 12 1 0 0\n" if words == ["import", "c1.run", "-"] else b"4 1 0 0 0\n"
+        done = room.run(*words, input=b"")
+        yield f"{words} with nothing on standard input: {seen(done)}", told(done, 3, line, "")
 
 
 def lengths(room):
@@ -81,4 +100,5 @@ def lengths(room):
 def verdicts(room):
     yield from unreadable(room)
     yield from names(room)
+    yield from nothing(room)
     yield from lengths(room)

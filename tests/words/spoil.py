@@ -1,5 +1,6 @@
 #!/usr/bin/env python3
-"""Writes run C1 with single numbers changed, one file for each sentence that the examples do not bring about.
+"""Writes run C1 with single numbers changed, one file for each sentence that the examples do not bring about, and its table with
+single lines changed.
 
   spoil.py C1.run FOLDER
 """
@@ -8,6 +9,7 @@ import struct
 import sys
 
 C1, FOLDER = pathlib.Path(sys.argv[1]).read_bytes(), pathlib.Path(sys.argv[2])
+TABLE = pathlib.Path(sys.argv[1]).with_suffix(".csv").read_bytes()
 FIRST_TASK, FIRST_RECORD = 4, 25
 
 
@@ -38,9 +40,25 @@ SPOILED = {
     "refusal-4": {3: 33},
     "refusal-5": {task(1, "P"): 0},
     "refusal-7": {FIRST_RECORD - 1: 513},
+    "not-rising": {record(1, "job"): 0},
 }
 # how many bytes are left
 CUT = {"cut-count": 2, "cut-setting": 8, "cut-tasks": 61, "cut-records": 150}
+# as spreadsheets and people write tables
+HEADER, *LINES = TABLE.splitlines(keepends=True)
+TABLES = {
+    "carriage-returns": TABLE.replace(b"\n", b"\r\n"),
+    "byte-order-mark": b"\xef\xbb\xbf" + TABLE,
+    "semicolons": TABLE.replace(b",", b";"),
+    "quoted": TABLE.replace(b"0,0,1,15,17,2", b'"0","0","1","15","17","2"'),
+    "space": TABLE.replace(b"0,1,10,", b"0, 1,10,"),
+    "leading-zero": TABLE.replace(b"0,1,10,", b"0,01,10,"),
+    "not-closed": TABLE[:-1],
+    "empty-line": TABLE + b"\n",
+    "empty": b"",
+    "repeated": TABLE + LINES[1],
+    "too-many": HEADER + b"".join(b"0,%d,0,0,0,1\n" % job for job in range(513)),
+}
 
 for name, changes in SPOILED.items():
     numbers = list(struct.unpack(f"<{len(C1) // 4}I", C1))
@@ -49,5 +67,7 @@ for name, changes in SPOILED.items():
     (FOLDER / f"{name}.run").write_bytes(struct.pack(f"<{len(numbers)}I", *numbers))
 for name, length in CUT.items():
     (FOLDER / f"{name}.run").write_bytes(C1[:length])
+for name, contents in TABLES.items():
+    (FOLDER / f"{name}.csv").write_bytes(contents)
 (FOLDER / "one-more.run").write_bytes(C1 + bytes(1))
 (FOLDER / "too-long.run").write_bytes(C1 + bytes(20000))

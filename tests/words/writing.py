@@ -11,8 +11,15 @@ from trial import NOBODY, contents, folder, seen, text, told
 
 OLD = b"what stood there\n"
 ENDS = ("SIGHUP", "SIGINT", "SIGQUIT", "SIGTERM")
-SAYING = (["check", "c1.run"], ["carry", "c9.run", "512"], ["carry", "c1.run", "19"], ["show", "c9.run"], ["say", "c1.run", "30"],
-          ["--help"], ["check", "--help"], ["--version"])
+# the words that write, each with what it writes, which has more than 8 KiB, and with what stands behind it where it is refused
+WRITING = {
+    ("carry", "c9.run", "512"): ("c9.run", {("c1.run", "19"): b"4 9 0 0 0\n", ("c5.run", "30"): b"4 10 0 0 0\n",
+                                            ("c8.run", "30"): b"4 1 0 0 0\n"}),
+    ("import", "c9.run", "c9.csv"): ("c9.run", {("c1.run", "c1.run"): b"4 12 1 0 0\n", ("c8.run", "c9.csv"): b"4 1 0 0 0\n"}),
+    ("export", "c9.run"): ("c9.csv", {("c10.run",): b"4 6 0 0 0\n", ("c8.run",): b"4 1 0 0 0\n"}),
+}
+SAYING = (["check", "c1.run"], *map(list, WRITING), ["carry", "c1.run", "19"], ["import", "c1.run", "c1.run"], ["export", "c8.run"],
+          ["show", "c9.run"], ["say", "c1.run", "30"], ["--help"], ["check", "--help"], ["--version"])
 
 
 def failed(done, name, reason):
@@ -55,21 +62,26 @@ def closed_streams(room):
 
 
 def into(room, out, words, **how):
-    """Carries into OUT, and gives what was done with what stood in its folder before and after."""
+    """Writes into OUT, and gives what was done with what stood in its folder before and after."""
     before = folder(out.parent)
-    done = room.run("carry", *words, "-o", out, **how)
+    done = room.run(*words, "-o", out, **how)
     return done, before, folder(out.parent)
 
 
-def untouched(room, out, why, reason, words=("c9.run", "512"), **how):
+def untouched(room, out, why, reason, words, **how):
     done, before, after = into(room, out, words, **how)
-    yield f"-o, {why}: {seen(done)}", failed(done, str(out), reason) and done.stdout == b""
-    yield f"-o, {why}: the folder is not as it was: {sorted(after)}", before == after
+    yield f"{words[0]} -o, {why}: {seen(done)}", failed(done, str(out), reason) and done.stdout == b""
+    yield f"{words[0]} -o, {why}: the folder is not as it was: {sorted(after)}", before == after
 
 
 def whole_or_untouched(room):
-    """OUT is the carried file or what it was, and nothing else is left in its folder."""
-    place = room.at / "place"
+    """OUT is the file that was to be written or what it was, and nothing else is left in its folder."""
+    for words, (written, refused) in WRITING.items():
+        yield from whole_or_untouched_by(room, words, (room.runs / written).read_bytes(), refused)
+
+
+def whole_or_untouched_by(room, words, whole, refused):
+    place = room.at / f"place of {words[0]}"
     place.mkdir()
     for name, old in (("new.run", None), ("old.run", OLD)):
         out = place / name
@@ -77,17 +89,17 @@ def whole_or_untouched(room):
             out.write_bytes(old)
         for fault, reason in (("write", "No space left on device"), ("close", "Input/output error"), ("fsync", "Input/output error"),
                               ("fchmod", "Operation not permitted"), ("rename", "Invalid cross-device link")):
-            yield from untouched(room, out, f"{name}, {fault} fails", reason, fault=fault)
-        for words, line in ((("c1.run", "19"), b"4 9 0 0 0\n"), (("c5.run", "30"), b"4 10 0 0 0\n"), (("c8.run", "30"), b"4 1 0 0 0\n")):
-            done, before, after = into(room, out, words)
-            yield f"-o, refused: {seen(done)}", told(done, 3, line, "") and before == after
-        done, before, after = into(room, out, ("nofile", "30"))
-        yield f"-o, no file: {seen(done)}", told(done, 2, b"", None) and before == after
-        done, before, after = into(room, out, ("c9.run", "512"), fault="drops")
+            yield from untouched(room, out, f"{name}, {fault} fails", reason, words, fault=fault)
+        for given, line in refused.items():
+            done, before, after = into(room, out, (words[0], *given))
+            yield f"{words[0]} -o, refused: {seen(done)}", told(done, 3, line, "") and before == after
+        done, before, after = into(room, out, (words[0], "nofile", *words[2:]))
+        yield f"{words[0]} -o, no file: {seen(done)}", told(done, 2, b"", None) and before == after
+        done, before, after = into(room, out, words, fault="drops")
         written, rights = after.get(name, (None, 0))
-        yield f"-o: {seen(done)}", told(done, 0, b"", "") and written == (room.runs / "c9.run").read_bytes()
-        yield f"-o: something else is left: {sorted(after)}", before.keys() | {name} == after.keys()
-        yield f"-o: rights {rights:o}", rights & 0o7777 == (0o666 & ~mask())
+        yield f"{words[0]} -o: {seen(done)}", told(done, 0, b"", "") and written == whole
+        yield f"{words[0]} -o: something else is left: {sorted(after)}", before.keys() | {name} == after.keys()
+        yield f"{words[0]} -o: rights {rights:o}", rights & 0o7777 == (0o666 & ~mask())
 
 
 def mask():
@@ -114,14 +126,15 @@ def signals(room):
     place.mkdir()
     out = place / "out.run"
     out.write_bytes(OLD)
+    words = ("carry", "c9.run", "512")
     for name in ENDS:
-        done, before, after = into(room, out, ("c9.run", "512"), fault=name, preexec_fn=usual_signals)
+        done, before, after = into(room, out, words, fault=name, preexec_fn=usual_signals)
         yield f"-o, {name}: {seen(done)}", done.returncode == -getattr(signal, name)
         yield f"-o, {name}: {sorted(after)}", before == after
-    done = into(room, out, ("c9.run", "512"), fault="SIGHUP", preexec_fn=lambda: signal.signal(signal.SIGHUP, signal.SIG_IGN))[0]
+    done = into(room, out, words, fault="SIGHUP", preexec_fn=lambda: signal.signal(signal.SIGHUP, signal.SIG_IGN))[0]
     yield f"-o, SIGHUP ignored: {seen(done)}", done.returncode == 0 and contents(out) == (room.runs / "c9.run").read_bytes()
     out.write_bytes(OLD)
-    done = into(room, out, ("c9.run", "512"), fault="SIGTERM", preexec_fn=hold_back)[0]
+    done = into(room, out, words, fault="SIGTERM", preexec_fn=hold_back)[0]
     yield f"-o, SIGTERM held back: {seen(done)}", done.returncode == 0 and contents(out) == (room.runs / "c9.run").read_bytes()
     # while it waits for its input
     before = folder(place)
@@ -151,18 +164,19 @@ def kinds(room):
     place = room.at / "kinds"
     place.mkdir()
     device = full_device(place)
-    if device is not None:
-        done = room.run("carry", "c1.run", "30", "-o", device)
-        yield f"-o of a full device: {seen(done)}", failed(done, str(device), "No space left on device")
-        yield "-o of a device puts a file in its place", device.is_char_device()
-    done = room.run("carry", "c1.run", "30", "-o", "-")
-    yield f"-o -: {seen(done)}", told(done, 0, c4, "")
-    done = room.run("carry", "c1.run", "30", "-o", place)
-    yield f"-o of a folder: {seen(done)}", failed(done, str(place), "Is a directory")
-    done = room.run("carry", "c1.run", "30", "-o", place / "none" / "out")
-    yield f"-o in a folder that is not there: {seen(done)}", failed(done, str(place / "none" / "out"), "No such file or directory")
-    done = room.run("carry", "c1.run", "30", "-o", "")
-    yield f"-o of no name: {seen(done)}", failed(done, "", "No such file or directory")
+    for words, (written, _) in WRITING.items():
+        if device is not None:
+            done = room.run(*words, "-o", device)
+            yield f"{words[0]} -o of a full device: {seen(done)}", failed(done, str(device), "No space left on device")
+            yield f"{words[0]} -o of a device puts a file in its place", device.is_char_device()
+        done = room.run(*words, "-o", "-")
+        yield f"{words[0]} -o -: {seen(done)}", told(done, 0, (room.runs / written).read_bytes(), "")
+        done = room.run(*words, "-o", place)
+        yield f"{words[0]} -o of a folder: {seen(done)}", failed(done, str(place), "Is a directory")
+        done = room.run(*words, "-o", place / "none" / "out")
+        yield f"{words[0]} -o in no folder: {seen(done)}", failed(done, str(place / "none" / "out"), "No such file or directory")
+        done = room.run(*words, "-o", "")
+        yield f"{words[0]} -o of no name: {seen(done)}", failed(done, "", "No such file or directory")
     real, link = place / "real.run", place / "link.run"
     real.write_bytes(OLD)
     real.chmod(0o640)
@@ -175,10 +189,14 @@ def kinds(room):
     after = real.stat()
     yield "the rights of a file that is replaced are lost", after.st_mode == before.st_mode
     yield "the owner of a file that is replaced is lost", (after.st_uid, after.st_gid) == (before.st_uid, before.st_gid)
-    own = room.file("own.run", (room.runs / "c1.run").read_bytes())
-    done = room.run("carry", "own.run", "30", "-o", "own.run")
-    yield f"-o of the file itself: {seen(done)}", told(done, 0, b"", "") and contents(own) == c4
-    own.unlink()
+    c1, table = (room.runs / "c1.run").read_bytes(), (room.runs / "c1.csv").read_bytes()
+    without_records = c1[:96] + bytes(4)
+    for words, old, new in ((["carry", "own.run", "30"], c1, c4), (["import", "own.run", "c11.csv"], c1, without_records),
+                            (["import", "c1.run", "own.run"], table, c1), (["export", "own.run"], c1, table)):
+        own = room.file("own.run", old)
+        done = room.run(*words, "-o", "own.run")
+        yield f"{words} -o of the file itself: {seen(done)}", told(done, 0, b"", "") and contents(own) == new
+        own.unlink()
     os.mkfifo(place / "pipe")
     with subprocess.Popen(["cat", place / "pipe"], stdout=subprocess.PIPE) as reader:
         done = room.run("carry", "c1.run", "30", "-o", place / "pipe")
@@ -193,13 +211,14 @@ def others(room):
     place = room.at / "read-only"
     place.mkdir()
     place.chmod(0o555)
-    yield from untouched(room, place / "out.run", "a folder that may only be read", "Permission denied", user=NOBODY)
+    words = ("carry", "c9.run", "512")
+    yield from untouched(room, place / "out.run", "a folder that may only be read", "Permission denied", words, user=NOBODY)
     place = room.at / "open"
     place.mkdir()
     place.chmod(0o777)
     out = place / "out.run"
     out.write_bytes(OLD)
-    yield from untouched(room, out, "a file that may only be read", "Permission denied", user=NOBODY)
+    yield from untouched(room, out, "a file that may only be read", "Permission denied", words, user=NOBODY)
 
 
 def limited(room):
@@ -210,10 +229,11 @@ def limited(room):
 
     place = room.at / "limited"
     place.mkdir()
-    yield from untouched(room, place / "out.run", "a file may not grow", "File too large", preexec_fn=limit)
-    with open(place / "standard", "wb") as out:
-        done = room.run("carry", "c9.run", "512", stdout=out, preexec_fn=limit)
-    yield f"standard output may not grow: {seen(done)}", failed(done, "standard output", "File too large")
+    for words in WRITING:
+        yield from untouched(room, place / "out.run", "a file may not grow", "File too large", words, preexec_fn=limit)
+        with open(place / "standard", "wb") as out:
+            done = room.run(*words, stdout=out, preexec_fn=limit)
+        yield f"{words[0]}, standard output may not grow: {seen(done)}", failed(done, "standard output", "File too large")
 
 
 # Within a name space of its own: a file system of 8 KiB, and the same made read-only.
