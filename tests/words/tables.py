@@ -1,8 +1,9 @@
 """Text tables: lines in any order, what makes a line bad and which line is named, what comes first, and how much of a table is read."""
 import os
+import re
 import subprocess
 
-from trial import seen, told
+from trial import ROOT, seen, told
 
 HEADER = b"task,job,release,start,end,core\n"
 GREATEST = 2**32 - 1
@@ -59,10 +60,16 @@ def orders(room):
                   c1[:96] + b"\3\0\0\0" + b"".join(n.to_bytes(4, "little") for numbers in other[1:] + other[:1] for n in numbers))
 
 
+def listed():
+    """The lines that docs/FORMAT.md lists as bad."""
+    rows = re.search(r"^\| In place of .*\n\|---\|---\|\n((?:\|.*\n)+)", (ROOT / "docs" / "FORMAT.md").read_text(), re.M)[1]
+    return [re.match(r"\| `(.*?)` \| ", row)[1].encode() for row in rows.splitlines()]
+
+
 def bad(room):
     """A bad line, or one that repeats a job, is named by its number; the first of them is the one."""
     first, *rest = records((room.runs / "c1.run").read_bytes())
-    for wrong in BAD_LINES:
+    for wrong in (*BAD_LINES, *listed()):
         yield refused(room, HEADER + first + wrong + b"\n" + b"".join(rest), 12, 3)
     for good in GOOD_LINES:
         table = HEADER + rest[-1] + good
