@@ -2,6 +2,7 @@
 -- the file is a list of bytes where numbers are to fit.
 use Prim.Native.Nat.{ℕ, zero, suc, _+_, _*_, _≤_, _<_}
 use mathlib.Core.Path.{_≡_, refl, sym, _∙_, ap, subst}
+use mathlib.Core.Logic.{_↔_}
 use mathlib.Core.List.{List, [], _∷_, _++_, map}
 use native.Mathlib.Omega.{arith}
 use native.Mathlib.Nat.{mul-suc}
@@ -39,6 +40,17 @@ pub all-counted : {o : Outcome} → Outcomes o → o .told .answer ≡ 5 → o .
 unfolding writtenOut
 all-counted {o} (refuses ν i e) five = absurd (omega (arith, five, ap (λ p. p .told .answer) e))
 all-counted {o} (writes out e) five = ap (λ p. p .told .code) e ∙ ap (λ p. length (p .writes)) (sym e)
+
+-- a refusal is told exactly where it is the outcome
+pub refused-outcome : {o : Outcome} → Outcomes o → (ν i : ℕ) → (o .told ≡ refusal ν i) ↔ (o ≡ refusedWith ν i)
+unfolding writtenOut
+refused-outcome {o} K ν i = (to K, λ e. ap (λ p. p .told) e)
+  where
+    to : Outcomes o → o .told ≡ refusal ν i → o ≡ refusedWith ν i
+    to (refuses μ j e) t =
+        let q : refusal μ j ≡ refusal ν i = sym (ap (λ p. p .told) e) ∙ t in
+        e ∙ (λ κ. refusedWith (q κ .code) (q κ .place .x))
+    to (writes out e) t = absurd (omega (arith, ap (λ f. f .answer) (sym t ∙ ap (λ p. p .told) e)))
 
 -- five small numbers
 few-fit : (a c x : ℕ) → a ≤ 5 → c ≤ 65535 → x ≤ 65535 → FiveFit (record { answer = a; code = c; place = record { x = x; y = 0; z = 0 } })

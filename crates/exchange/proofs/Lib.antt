@@ -6,4 +6,5 @@ pub mod ExportedLines
 pub mod ThereAndBack
 pub mod SaysExactly
 pub mod ExchangeAnswers
+pub mod FrontOfTable
 pub mod Once

@@ -1,11 +1,14 @@
--- Of each call some outcome is permitted: what Promise.antt says of `Checks` and `Carries` is not said of nothing. Assumes nothing.
+-- Of each call some outcome is permitted: what Promise.antt and TextPromise.antt say of calls is not said of nothing. Assumes nothing.
 use Prim.Native.Nat.{ℕ}
 use mathlib.Core.Path.{refl}
 use mathlib.Core.List.{List, []}
 use denote.Ref.{RefT}
 use Rattle.model.specs.File.{Bytes}
 use Rattle.model.specs.Calls.{checkCall, carryCall}
+use Rattle.exchange.specs.Import.{importCall}
+use Rattle.exchange.specs.Export.{exportCall}
 use Rattle.octalmure.proofs.Promise.{Checks, Carries}
+use Rattle.octalmure.proofs.TextPromise.{Imports, Exports}
 
 -- a slice that is lent, by its contents
 abbrev ref : List ℕ → RefT (List ℕ)
@@ -42,6 +45,47 @@ carry-gives b H′ o a B =
         permitted = (refl, refl, refl);
         file = refl;
         horizon = refl;
+        output = refl;
+        answer = refl;
+        written = refl;
+        left = refl;
+      },
+    )
+
+pub import-gives : (b T o a : List ℕ) → Bytes b → (r : ℕ) × (o′ : List ℕ) × (a′ : List ℕ) × Imports b T o a r o′ a′
+import-gives b T o a B =
+    let c = importCall b T o a in (
+      c .returns,
+      c .output,
+      c .answer,
+      record {
+        of-bytes = B;
+        lifetimes = ([], ([], ([], ([], tt))));
+        lent = (ref b, (ref T, (ref o, (ref a, tt))));
+        back = (ref b, (ref T, (ref (c .output), (ref (c .answer), tt))));
+        permitted = (refl, refl, refl);
+        file = refl;
+        table = refl;
+        output = refl;
+        answer = refl;
+        written = refl;
+        left = refl;
+      },
+    )
+
+pub export-gives : (b o a : List ℕ) → Bytes b → (r : ℕ) × (o′ : List ℕ) × (a′ : List ℕ) × Exports b o a r o′ a′
+export-gives b o a B =
+    let c = exportCall b o a in (
+      c .returns,
+      c .output,
+      c .answer,
+      record {
+        of-bytes = B;
+        lifetimes = ([], ([], ([], tt)));
+        lent = (ref b, (ref o, (ref a, tt)));
+        back = (ref b, (ref (c .output), (ref (c .answer), tt)));
+        permitted = (refl, refl, refl);
+        file = refl;
         output = refl;
         answer = refl;
         written = refl;

@@ -79,7 +79,7 @@ module _ {b a a′ : List ℕ} {r : ℕ} (C : Checks b a r a′) where
       go (yes h) = absurd (other (ap (λ c. c .returns) (is-check ∙ check-short b a h)))
       go (no h) = omega (arith, h)
 
-  says : answerSize ≤ length a → (fiveIn a′ ≡ check b) × (r ≡ check b .answer) × (drop answerSize a′ ≡ drop answerSize a)
+  pub says : answerSize ≤ length a → (fiveIn a′ ≡ check b) × (r ≡ check b .answer) × (drop answerSize a′ ≡ drop answerSize a)
   says = check-told b (C .of-bytes) a _ is-check
 
 module _ {b o a o′ a′ : List ℕ} {H′ r : ℕ} (C : Carries b H′ o a r o′ a′) where
