@@ -5,9 +5,10 @@ use mathlib.Core.Path.{_≡_, refl, sym, _∙_, ap}
 use mathlib.Core.Bool.{Bool, true, false, not, _&&_, true≢false}
 use mathlib.Core.List.{List}
 use native.Mathlib.Omega.{arith}
+use borrow.Author.Tests.{not-true, not-false}
 use lib.Dec.{leb}
 use lib.ListN.{length}
-use Rattle.base.proofs.Test.{says-leb, says-and, says-true, fails, holds}
+use Rattle.base.proofs.Test.{says-leb, says-and, says-true}
 use Rattle.model.proofs.Gates.{gate-opens, gate-closes, leaves, leaves-refused}
 use Rattle.carrytheory.proofs.Demand3.{carried-size}
 use Rattle.model.specs.declared.task.Task.{Task}
@@ -40,7 +41,7 @@ module _ (ρ : Run) {t : Bool} {f : Five} (e : t ≡ leb (f .answer) 2) (v : f �
   accepted = e ∙ ap (λ g. leb (g .answer) 2) v
 
   pub obeys : not t ≡ false → Obeys ρ
-  obeys n = accepted-exactly-if-obeyed ρ .0 (says-leb (verdict ρ .answer) 2 .sound (sym accepted ∙ holds n))
+  obeys n = accepted-exactly-if-obeyed ρ .0 (says-leb (verdict ρ .answer) 2 .sound (sym accepted ∙ not-false _ n))
 
 module _ {b : List ℕ} {h : Head} {ρ : Run} (T : Tells b h ρ) where
   pub writable : {l : List Task} {H′ m : ℕ} (room : ℕ) {s : ℕ} → Leads ρ l → Obeys ρ → Allowed ρ H′ → m ≡ length (existing ρ H′)
@@ -49,7 +50,7 @@ module _ {b : List ℕ} {h : Head} {ρ : Run} (T : Tells b h ρ) where
       record {
         obeys = O;
         carriable = record { tells = T; tasks = L; jobs = O rule1; allowed = R; count = count };
-        fits = rw size at (says-leb s room .sound (holds n));
+        fits = rw size at (says-leb s room .sound (not-false _ n));
       }
 
   module _ (H′ : ℕ) {t : Bool} (e : t ≡ (leb (h .setting .horizon) H′ && leb H′ mostHorizon)) where
@@ -58,8 +59,8 @@ module _ {b : List ℕ} {h : Head} {ρ : Run} (T : Tells b h ρ) where
 
     pub allowed : {m : ℕ} → not t ≡ false → m ≡ totalJobs (ρ .tasks) H′ → not (leb m mostJobs) ≡ false → Allowed ρ H′
     allowed {m} n count l =
-        let (longer, most) = says-and (says-leb (ρ .setting .horizon) H′) (says-leb H′ mostHorizon) .sound (sym far ∙ holds n) in
-        record { longer = longer; most = most; few = rw count at (says-leb m mostJobs .sound (holds l)) }
+        let (longer, most) = says-and (says-leb (ρ .setting .horizon) H′) (says-leb H′ mostHorizon) .sound (sym far ∙ not-false _ n) in
+        record { longer = longer; most = most; few = rw count at (says-leb m mostJobs .sound (not-false _ l)) }
 
 -- the jobs that are counted are those that exist
 pub counted : (ρ : Run) (H′ : ℕ) {m : ℕ} → m ≡ totalJobs (ρ .tasks) H′ → m ≡ length (existing ρ H′)
@@ -76,13 +77,13 @@ module _ {b : List ℕ} {h : Head} {ρ : Run} (T : Tells b h ρ) (H′ : ℕ) (o
   module _ {t : Bool} (e : t ≡ (leb (h .setting .horizon) H′ && leb H′ mostHorizon)) where
     pub says-9 : not t ≡ true → Carries b H′ output (refusal 9 0) output
     unfolding carryRun
-    says-9 n = leaves-refused output (whole-is ∙ gate-closes 9 _ _ (sym (far T H′ e) ∙ fails n))
+    says-9 n = leaves-refused output (whole-is ∙ gate-closes 9 _ _ (sym (far T H′ e) ∙ not-true _ n))
 
     pub says-6 : {m : ℕ} → not t ≡ false → m ≡ totalJobs (ρ .tasks) H′ → not (leb m mostJobs) ≡ true → Carries b H′ output (refusal 6 0) output
     unfolding carryRun
     says-6 n count l =
         leaves-refused output
-        (whole-is ∙ gate-opens 9 _ _ _ (sym (far T H′ e) ∙ holds n) (gate-closes 6 _ _ (ap (λ k. leb k mostJobs) (sym count) ∙ fails l)))
+        (whole-is ∙ gate-opens 9 _ _ _ (sym (far T H′ e) ∙ not-false _ n) (gate-closes 6 _ _ (ap (λ k. leb k mostJobs) (sym count) ∙ not-true _ l)))
 
   -- by the run's own answer, and the size of the file that is to be written
   module _ (R : Allowed ρ H′) where
@@ -98,7 +99,7 @@ module _ {b : List ℕ} {h : Head} {ρ : Run} (T : Tells b h ρ) (H′ : ℕ) (o
         (gate-opens 6 _ _ _ (says-true (says-leb (totalJobs (ρ .tasks) H′) mostJobs) (R .few)) q)
 
     pub says-10 : {t : Bool} {f : Five} → t ≡ leb (f .answer) 2 → f ≡ verdict ρ → not t ≡ true → Carries b H′ output (refusal 10 0) output
-    says-10 e v n = leaves-refused output (past-6 (gate-closes 10 _ _ (sym (accepted ρ e v) ∙ fails n)))
+    says-10 e v n = leaves-refused output (past-6 (gate-closes 10 _ _ (sym (accepted ρ e v) ∙ not-true _ n)))
 
     module _ (O : Obeys ρ) {m : ℕ} (count : m ≡ length (existing ρ H′)) {s : ℕ} (size : s ≡ sizeOf (h .tasks) m) where
       past-10 : {o : Outcome} → gateOutcome 11 (leb (length out) (length output)) (writtenOut out) ≡ o → carry b H′ (length output) ≡ o
@@ -113,8 +114,8 @@ module _ {b : List ℕ} {h : Head} {ρ : Run} (T : Tells b h ρ) (H′ : ℕ) (o
       is-room = ap (λ k. leb k (length output)) is-size
 
       pub says-11 : not (leb s (length output)) ≡ true → Carries b H′ output (refusal 11 0) output
-      says-11 n = leaves-refused output (past-10 (gate-closes 11 _ _ (is-room ∙ fails n)))
+      says-11 n = leaves-refused output (past-10 (gate-closes 11 _ _ (is-room ∙ not-true _ n)))
 
       pub says-5 : {after : List ℕ} → not (leb s (length output)) ≡ false → after ≡ front out output → Carries b H′ output (bytesWritten s) after
       unfolding writtenOut
-      says-5 {after} n w = leaves output after (past-10 (gate-opens 11 _ _ _ (is-room ∙ holds n) refl)) (ap bytesWritten (sym is-size)) w
+      says-5 {after} n w = leaves output after (past-10 (gate-opens 11 _ _ _ (is-room ∙ not-false _ n) refl)) (ap bytesWritten (sym is-size)) w

@@ -4,9 +4,10 @@ use mathlib.Core.Path.{_≡_, refl, sym, _∙_, ap}
 use mathlib.Core.Bool.{Bool, true, false, not}
 use mathlib.Core.List.{List}
 use native.Mathlib.Omega.{arith}
+use borrow.Author.Tests.{not-true, not-false}
 use lib.Dec.{leb}
 use lib.ListN.{length}
-use Rattle.base.proofs.Test.{says-leb, fails, holds}
+use Rattle.base.proofs.Test.{says-leb}
 use Rattle.model.proofs.Gates.{gate-opens, gate-closes, leaves, leaves-refused}
 use Rattle.model.specs.Answers.{Five, refusal, bytesWritten, refusedWith, Outcome, gateOutcome, writtenOut}
 use Rattle.model.specs.Calls.{front}
@@ -27,7 +28,7 @@ says-refused b output ν i e = leaves-refused output (ap (λ r. exportOf r (leng
 
 -- the test of the room
 pub has-room : (s room : ℕ) → not (leb s room) ≡ false → s ≤ room
-has-room s room e = says-leb s room .sound (holds e)
+has-room s room e = says-leb s room .sound (not-false _ e)
 
 -- how many bytes the table has
 module _ {b : List ℕ} {h : Head} {ρ : Run} (T : Tells b h ρ)
@@ -51,23 +52,23 @@ module _ {b : List ℕ} {h : Head} {ρ : Run} (T : Tells b h ρ) (output : List 
 
   pub says-14 : not t ≡ true → Exports b output (refusal 14 0) output
   unfolding exportRun
-  says-14 n = leaves-refused output (whole-is ∙ gate-closes 14 _ _ (rising ∙ fails n))
+  says-14 n = leaves-refused output (whole-is ∙ gate-closes 14 _ _ (rising ∙ not-true _ n))
 
   module _ (r : not t ≡ false) {s : ℕ} (size : s ≡ length (tableOf (recordsAt b (h .«records_at») (h .records)))) where
     past-14 : {o : Outcome} → gateOutcome 11 (leb (length (exported ρ)) (length output)) (writtenOut (exported ρ)) ≡ o
         → exportFile b (length output) ≡ o
     unfolding exportRun
-    past-14 q = whole-is ∙ gate-opens 14 _ _ _ (rising ∙ holds r) q
+    past-14 q = whole-is ∙ gate-opens 14 _ _ _ (rising ∙ not-false _ r) q
 
     is-room : leb (length (exported ρ)) (length output) ≡ leb s (length output)
     is-room = ap (λ k. leb k (length output)) (is-size T size)
 
     pub says-11 : not (leb s (length output)) ≡ true → Exports b output (refusal 11 0) output
-    says-11 n = leaves-refused output (past-14 (gate-closes 11 _ _ (is-room ∙ fails n)))
+    says-11 n = leaves-refused output (past-14 (gate-closes 11 _ _ (is-room ∙ not-true _ n)))
 
     pub says-5 : {after : List ℕ} → not (leb s (length output)) ≡ false
         → after ≡ front (tableBy b (h .«records_at») (startOrder b (h .«records_at») (h .records))) output → Exports b output (bytesWritten s) after
     unfolding writtenOut
     says-5 {after} n w =
-        leaves output after (past-14 (gate-opens 11 _ _ _ (is-room ∙ holds n) refl)) (ap bytesWritten (sym (is-size T size)))
+        leaves output after (past-14 (gate-opens 11 _ _ _ (is-room ∙ not-false _ n) refl)) (ap bytesWritten (sym (is-size T size)))
         (w ∙ ap (λ l. front l output) (exported-told T))

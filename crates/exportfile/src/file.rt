@@ -17,11 +17,11 @@ fn export_whole(file: &[u8], head: Head, output: &mut [u8]) -> Answer
     ensures { λ r. ⌜ Exports (now (file .entry)) (now (output .entry)) (fiveOf r) (now (output .exit)) ⌝ }
 {
     let rising = records_rise(file, head.records_at, head.records);
-    let size = table_size(file, head.records_at, head.records);
-    let fits = size <= output.len();
     if !rising {
         return Answer::Refused(14, 0);
     }
+    let size = table_size(file, head.records_at, head.records);
+    let fits = size <= output.len();
     if !fits {
         return Answer::Refused(11, 0);
     }

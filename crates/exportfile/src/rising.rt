@@ -22,11 +22,14 @@ fn goes_before(x: Record, y: Record) -> bool
 pub(crate) fn records_rise(file: &[u8], at: u32, n: u32) -> bool
     ensures { λ r. ⌜ r ≡ risesAt (now (file .entry)) at n ⌝ }
 {
+    let mut before = record_at(file, at, 0);
     let mut k = 0;
     while k + 1 < n {
-        if !goes_before(record_at(file, at, k), record_at(file, at, k + 1)) {
+        let next = record_at(file, at, k + 1);
+        if !goes_before(before, next) {
             return false;
         }
+        before = next;
         k += 1;
     }
     true

@@ -1,4 +1,5 @@
 pub mod SixNumbers
 pub mod SideBySide
+pub mod Marks
 pub mod LineByLine
 pub mod Once

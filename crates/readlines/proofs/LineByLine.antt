@@ -7,7 +7,7 @@ use mathlib.Core.List.{List, [], _∷_, _++_}
 use mathlib.Core.Option.{none}
 use native.Mathlib.Omega.{arith}
 use borrow.Author.Tests.{not-true, not-false}
-use lib.ListN.{length, getD, take, drop, length-drop, drop-of-length-le}
+use lib.ListN.{length, getD, set, take, drop, length-drop, length-set, drop-of-length-le}
 use Rattle.base.specs.Find.{first, found}
 use Rattle.model.specs.declared.record.Record.{Record}
 use Rattle.model.specs.Model.{jobOf, mostRecords}
@@ -23,7 +23,8 @@ use Rattle.readlines.specs.declared.line.Line.{Line}
 use Rattle.readlines.specs.declared.line.Line.the-variants.{Good, Bad}
 use Rattle.readlines.specs.declared.scan.Scanned.{Scanned}
 use Rattle.readlines.specs.declared.scan.Scanned.the-variants.{Refused, Records}
-use Rattle.readlines.specs.Scan.{SaysLine, restIf, width, jobIn, scannedOf}
+use Rattle.readlines.specs.Scan.{SaysLine, restIf, width, jobIn, scannedOf, Scans, slots, slotOf}
+use Rattle.readlines.proofs.Marks.{Marked, marked-none, marked-on, unmarked}
 use Rattle.readlines.proofs.SideBySide.{Laid, laid-length, laid-more, found-given}
 
 -- The header.
@@ -73,46 +74,53 @@ module _ (s : List ℕ) (at : ℕ) {r : Line} (told : SaysLine s at r) where
   pub bad-of : r ≡ Bad → (x : Record) (rest : List ℕ) → ¬ LineFirst (drop at s) x rest
   bad-of e = subst (SaysLine s at) e told
 
--- what a reading of a table says and leaves
-abbrev pub Told : List ℕ → List ℕ → Scanned → List ℕ → Type 0
-Told T before r rows = (r ≡ scannedOf (tableRead T)) × (rows ≡ front (joined recordNumbers (tableRead T .records)) before)
-
 told-by : (T before : List ℕ) {r : Scanned} {rows : List ℕ} {t : TableRead} → tableRead T ≡ t → r ≡ scannedOf t
-    → rows ≡ front (joined recordNumbers (t .records)) before → Told T before r rows
+    → rows ≡ front (joined recordNumbers (t .records)) before → Scans T before r rows
 told-by T before e p q = (p ∙ ap scannedOf (sym e), q ∙ ap (λ t. front (joined recordNumbers (t .records)) before) (sym e))
 
 -- the first n lines gave the records xs, which are laid down; the rest of the table is to be read
-pub record Scanning (T before : List ℕ) (at n : ℕ) (rows : List ℕ) : Type 0 where
+pub record Scanning (T before : List ℕ) (at n : ℕ) (rows marks : List ℕ) : Type 0 where
   pub xs : List Record
   pub few : n ≤ mostRecords
   pub room : width * mostRecords ≤ length before
   pub kept : length rows ≡ length before
   pub laid : Laid xs n before rows
+  pub places : slots ≤ length marks
+  pub marked : Marked xs marks
   pub reads : tableRead T ≡ linesFrom (mostRecords - n) xs (drop at T)
 
-module _ (T before : List ℕ) (g : Bool) (e : after header T ≡ restIf g T) where
-  pub scan-headless : not g ≡ true → Told T before (Refused 12 1) before
+module _ (T : List ℕ) (g : Bool) (e : after header T ≡ restIf g T) where
+  pub scan-headless : (before : List ℕ) → not g ≡ true → Scans T before (Refused 12 1) before
   unfolding scannedOf
-  scan-headless h = told-by T before (read-headless T (e ∙ ap (λ b. restIf b T) (not-true g h))) refl refl
+  scan-headless before h = told-by T before (read-headless T (e ∙ ap (λ b. restIf b T) (not-true g h))) refl refl
 
-  pub scan-starts : not g ≡ false → width * mostRecords ≤ length before → Scanning T before 32 0 before
-  scan-starts h room =
-      record {
-        xs = [];
-        few = omega arith;
-        room = room;
-        kept = refl;
-        laid = record { many = refl; rows-are = refl };
-        reads =
-            read-headed T (drop (length header) T) (e ∙ ap (λ b. restIf b T) (not-false g h))
-            ∙ ap (λ i. linesFrom mostRecords [] (drop i T)) length-header;
-      }
+  pub scan-headed : not g ≡ false → after header T ≡ restIf true T
+  scan-headed h = e ∙ ap (λ b. restIf b T) (not-false g h)
 
-module _ (T before : List ℕ) (at n : ℕ) (rows : List ℕ) (S : Scanning T before at n rows) where
+pub scan-starts : (T before marks : List ℕ) → after header T ≡ restIf true T → width * mostRecords ≤ length before → slots ≤ length marks
+    → Scanning T before 32 0 before marks
+scan-starts T before marks e room places =
+    record {
+      xs = [];
+      few = omega arith;
+      room = room;
+      kept = refl;
+      laid = record { many = refl; rows-are = refl };
+      places = places;
+      marked = marked-none marks;
+      reads = read-headed T (drop (length header) T) e ∙ ap (λ i. linesFrom mostRecords [] (drop i T)) length-header;
+    }
+
+module _ (T before : List ℕ) (at n : ℕ) (rows marks : List ℕ) (S : Scanning T before at n rows marks) where
   abbrev xs′ : List Record
   xs′ = S .xs
 
-  pub scan-end : length T ≤ at → Told T before (Records n) rows
+  -- no mark, not given
+  pub scan-unmarked : (x : Record) {slot : ℕ} → slot ≡ slotOf (jobOf x) → getD marks slot 0 ≡ 0
+      → found (first (λ k. sameJob (jobIn rows k) (jobOf x)) 0 n) ≡ false
+  scan-unmarked x e z = unmarked xs′ n before rows marks (S .laid) (S .marked) (jobOf x) e z
+
+  pub scan-end : length T ≤ at → Scans T before (Records n) rows
   unfolding scannedOf
   scan-end h =
       told-by T before
@@ -124,7 +132,7 @@ module _ (T before : List ℕ) (at n : ℕ) (rows : List ℕ) (S : Scanning T be
     some-byte : 1 ≤ length (drop at T)
     some-byte = omega (arith, length-drop at T)
 
-    pub scan-bad : ((x : Record) (rest : List ℕ) → ¬ LineFirst (drop at T) x rest) → Told T before (Refused 12 (n + 2)) rows
+    pub scan-bad : ((x : Record) (rest : List ℕ) → ¬ LineFirst (drop at T) x rest) → Scans T before (Refused 12 (n + 2)) rows
     unfolding scannedOf
     scan-bad f =
         told-by T before
@@ -133,7 +141,7 @@ module _ (T before : List ℕ) (at n : ℕ) (rows : List ℕ) (S : Scanning T be
         (S .laid .rows-are)
 
     module _ {x : Record} {rest : List ℕ} (L : LineFirst (drop at T) x rest) where
-      pub scan-many : n ≡ mostRecords → Told T before (Refused 7 0) rows
+      pub scan-many : n ≡ mostRecords → Scans T before (Refused 7 0) rows
       unfolding scannedOf
       scan-many e =
           let z : mostRecords - n ≡ 0 = omega arith in
@@ -150,7 +158,7 @@ module _ (T before : List ℕ) (at n : ℕ) (rows : List ℕ) (S : Scanning T be
         given-is = found-given xs′ n before rows (S .laid) (jobOf x)
 
         pub scan-given : {g : Bool} → g ≡ true → g ≡ found (first (λ k. sameJob (jobIn rows k) (jobOf x)) 0 n)
-            → Told T before (Refused 13 (n + 2)) rows
+            → Scans T before (Refused 13 (n + 2)) rows
         unfolding scannedOf
         scan-given h g =
             told-by T before
@@ -158,10 +166,11 @@ module _ (T before : List ℕ) (at n : ℕ) (rows : List ℕ) (S : Scanning T be
             (ap (λ k. Refused 13 (k + 2)) (sym (S .laid .many)))
             (S .laid .rows-are)
 
-        pub scan-on : {next : ℕ} {rows′ : List ℕ} {g : Bool} → rest ≡ drop next T → g ≡ false
+        pub scan-on : {next slot : ℕ} {rows′ : List ℕ} {g : Bool} → rest ≡ drop next T → g ≡ false
             → g ≡ found (first (λ k. sameJob (jobIn rows k) (jobOf x)) 0 n)
-            → rows′ ≡ take (width * n) rows ++ recordNumbers x ++ drop (width * n + width) rows → Scanning T before next (n + 1) rows′
-        scan-on {next} {rows′} e h g r =
+            → rows′ ≡ take (width * n) rows ++ recordNumbers x ++ drop (width * n + width) rows → (slot ≡ slotOf (jobOf x)) × (slot < slots)
+            → Scanning T before next (n + 1) rows′ (set marks slot 1)
+        scan-on {next} {slot} {rows′} e h g r m =
             let laid′ = laid-more xs′ n before rows (S .laid) x r in
             record {
               xs = xs′ ++ (x ∷ []);
@@ -169,6 +178,8 @@ module _ (T before : List ℕ) (at n : ℕ) (rows : List ℕ) (S : Scanning T be
               room = S .room;
               kept = laid-length (xs′ ++ (x ∷ [])) (n + 1) before rows′ laid′ (omega (arith, S .room));
               laid = laid′;
+              places = omega (arith, S .places, length-set marks slot 1);
+              marked = marked-on x (S .marked) (m .0) (omega (arith, m .1, S .places));
               reads =
                   reads-on
                   ∙ lines-taken (mostRecords - (n + 1)) xs′ (drop at T) some-byte (line-in-of L) (given-is g ∙ h)

@@ -1,5 +1,6 @@
 -- What is read of a table by the code: a line at a place, the rest behind the header, the numbers of the records side by side.
-use Prim.Native.Nat.{ℕ, _+_, _*_, _<_, _≤_}
+use Prim.Native.Nat.{ℕ, _+_, _*_, _%_, _<_, _≤_}
+use mathlib.Core.Path.{_≡_}
 use mathlib.Core.Bool.{Bool, true, false}
 use mathlib.Core.List.{List}
 use mathlib.Core.Option.{Option, none, some}
@@ -7,7 +8,9 @@ use lib.ListN.{length, getD, drop}
 use Rattle.model.specs.declared.record.Record.{Record}
 use Rattle.model.specs.Model.{Job}
 use Rattle.exchange.specs.RecordLine.{header, LineFirst}
-use Rattle.exchange.specs.TextTable.{TableRead}
+use Rattle.model.specs.File.{recordNumbers, joined}
+use Rattle.model.specs.Calls.{front}
+use Rattle.exchange.specs.TextTable.{TableRead, tableRead}
 use Rattle.readlines.specs.declared.line.Line.{Line}
 use Rattle.readlines.specs.declared.line.Line.the-variants.{Good, Bad}
 use Rattle.readlines.specs.declared.scan.Scanned.{Scanned}
@@ -37,3 +40,14 @@ scannedBy (some p) xs = Refused (p .0) (p .1)
 
 unfoldable pub scannedOf : TableRead → Scanned
 scannedOf r = scannedBy (r .fault) (r .records)
+
+-- what a reading of a table says, and leaves of the rows: the records that were taken, and after them what stood there before
+abbrev pub Scans : List ℕ → List ℕ → Scanned → List ℕ → Type 0
+Scans T before r rows = (r ≡ scannedOf (tableRead T)) × (rows ≡ front (joined recordNumbers (tableRead T .records)) before)
+
+-- where a job leaves its mark, one of so many places
+abbrev pub slots : ℕ
+slots = 4096
+
+unfoldable pub slotOf : Job → ℕ
+slotOf q = (q .0 * 509 + q .1) % slots

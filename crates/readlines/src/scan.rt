@@ -6,17 +6,16 @@ use exchange::header_line;
 use model::Record;
 ghost use mathlib.Core.Path.{_≡_};
 ghost use mathlib.Core.List.{_++_};
-ghost use Prim.Native.Nat.{_+_, _*_, _≤_};
+ghost use mathlib.Core.Bool.{true, false};
+ghost use Prim.Native.Nat.{_+_, _*_, _≤_, _<_};
 ghost use lib.ListN.{length, take, drop};
 ghost use Rattle.base.specs.Find.{first, found};
-ghost use Rattle.model.specs.Calls.{front};
 ghost use Rattle.model.specs.Compute.Places.{sameJob};
-ghost use Rattle.model.specs.File.{recordNumbers, joined};
+ghost use Rattle.model.specs.File.{recordNumbers};
 ghost use Rattle.model.specs.Model.{mostRecords};
 ghost use Rattle.exchange.specs.LineIn.{after};
 ghost use Rattle.exchange.specs.RecordLine.{header};
-ghost use Rattle.exchange.specs.TextTable.{tableRead};
-ghost use Rattle.readlines.specs.Scan.{width, jobIn, restIf, scannedOf};
+ghost use Rattle.readlines.specs.Scan.{width, jobIn, restIf, slots, slotOf, Scans};
 
 pub enum Scanned {
     // the refusal's number, and the line for 12 and 13
@@ -29,6 +28,9 @@ pub enum Scanned {
 pub const WIDTH: usize = 6;
 
 pub const ROWS: usize = WIDTH * Record::MOST as usize;
+
+// How many places there are for the marks of jobs.
+const SLOTS: usize = 4096;
 
 // Whether a table begins with the header.
 fn has_header(table: &[u8]) -> bool
@@ -65,6 +67,25 @@ fn given_before(rows: &[u32], n: usize, task: u32, job: u32) -> bool
     false
 }
 
+// Where a job leaves its mark.
+fn slot_of(task: u32, job: u32) -> usize
+    ensures { λ r. ⌜ (r ≡ slotOf (task, job)) × (r < slots) ⌝ }
+{
+    ((task as u64 * 509 + job as u64) % SLOTS as u64) as usize
+}
+
+// The same, where a job that was given has left a mark: without one, nothing has to be searched.
+fn given_again(mark: u8, rows: &[u32], n: usize, task: u32, job: u32) -> bool
+    requires { ⌜ (n ≤ mostRecords) × (width * n ≤ length (now rows))
+        × (mark ≡ 0 → found (first (λ k. sameJob (jobIn (now rows) k) (task, job)) 0 n) ≡ false) ⌝ }
+    ensures { λ r. ⌜ r ≡ found (first (λ k. sameJob (jobIn (now (rows .entry)) k) (task, job)) 0 n) ⌝ }
+{
+    if mark == 0 {
+        return false;
+    }
+    given_before(rows, n, task, job)
+}
+
 // Lays down record n.
 fn put_record(rows: &mut [u32], n: usize, x: Record)
     requires { ⌜ (n ≤ mostRecords) × (width * n + width ≤ length (now rows)) ⌝ }
@@ -80,15 +101,12 @@ fn put_record(rows: &mut [u32], n: usize, x: Record)
     rows[at + 5] = x.core;
 }
 
-// The whole table: its records are laid down from the front on, and stay there where a later line is refused.
-pub fn read_lines(table: &[u8], rows: &mut [u32]) -> Scanned
-    requires { ⌜ width * mostRecords ≤ length (now rows) ⌝ }
-    ensures { λ r. ⌜ (r ≡ scannedOf (tableRead (now (table .entry))))
-        × (now (rows .exit) ≡ front (joined recordNumbers (tableRead (now (table .entry)) .records)) (now (rows .entry))) ⌝ }
+// The lines after the header, with marks of the jobs that are given.
+fn scan_lines(table: &[u8], rows: &mut [u32], marks: &mut [u8]) -> Scanned
+    requires { ⌜ (width * mostRecords ≤ length (now rows)) × (slots ≤ length (now marks))
+        × (after header (now table) ≡ restIf true (now table)) ⌝ }
+    ensures { λ r. ⌜ Scans (now (table .entry)) (now (rows .entry)) r (now (rows .exit)) ⌝ }
 {
-    if !has_header(table) {
-        return Scanned::Refused(12, 1);
-    }
     let mut at = HEADER_SIZE;
     let mut n: u32 = 0;
     while at < table.len() {
@@ -96,7 +114,8 @@ pub fn read_lines(table: &[u8], rows: &mut [u32]) -> Scanned
         let Line::Good(x, next) = line_at(table, at) else {
             return Scanned::Refused(12, line);
         };
-        let given = given_before(rows, n as usize, x.task, x.job);
+        let slot = slot_of(x.task, x.job);
+        let given = given_again(marks[slot], rows, n as usize, x.task, x.job);
         if n == Record::MOST {
             return Scanned::Refused(7, 0);
         }
@@ -104,8 +123,21 @@ pub fn read_lines(table: &[u8], rows: &mut [u32]) -> Scanned
             return Scanned::Refused(13, line);
         }
         put_record(rows, n as usize, x);
+        marks[slot] = 1;
         n += 1;
         at = next;
     }
     Scanned::Records(n)
+}
+
+// The whole table: its records are laid down from the front on, and stay there where a later line is refused.
+pub fn read_lines(table: &[u8], rows: &mut [u32]) -> Scanned
+    requires { ⌜ width * mostRecords ≤ length (now rows) ⌝ }
+    ensures { λ r. ⌜ Scans (now (table .entry)) (now (rows .entry)) r (now (rows .exit)) ⌝ }
+{
+    if !has_header(table) {
+        return Scanned::Refused(12, 1);
+    }
+    let mut marks = [0u8; SLOTS];
+    scan_lines(table, rows, &mut marks)
 }
