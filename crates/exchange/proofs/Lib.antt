@@ -8,3 +8,4 @@ pub mod SaysExactly
 pub mod ExchangeAnswers
 pub mod FrontOfTable
 pub mod Once
+pub mod ExchangeTables
