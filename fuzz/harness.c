@@ -25,7 +25,7 @@ typedef struct {
     uint32_t (*export)(const uint8_t *, size_t, uint8_t *, size_t, uint8_t *, size_t);
 } Subject;
 
-static const Subject archive = {octalmure_guarded_check, octalmure_guarded_carry, octalmure_import, octalmure_export},
+static const Subject archive = {octalmure_guarded_check, octalmure_guarded_carry, octalmure_guarded_import, octalmure_guarded_export},
                      probed = {probed_check, probed_carry, probed_import, probed_export},
                      oracle = {oracle_check, oracle_carry, oracle_import, oracle_export};
 

@@ -3,8 +3,8 @@
 
   probe.py OBJDUMP OBJECT EDGES >OUT.s
 
-Every instruction of the object stands in the output as the bytes that it is, but for jumps, whose targets move: they are written by
-label. A probe counts in one byte of probe_counts, and keeps registers and flags. Probes stand at the front of each function, on both
+Every instruction of the object stands in the output as the bytes that it is, but for jumps and calls of a function by itself, whose
+targets move: they are written by label. A probe counts in one byte of probe_counts, and keeps registers and flags. Probes stand at the front of each function, on both
 ways out of a conditional jump and on each entry of a jump table. EDGES gets a line for each probe: function, from, to.
 What is called octalmure_.. becomes probed_.., so that the archive itself can be linked beside it.
 """
@@ -93,12 +93,18 @@ class Writer:
         elif name.startswith("j") and name != "jmp":
             after = f"{int(at, 16) + len(raw):x}"
             print(f"\t{name} {self.detour(section, at, operands.split()[0])}\n{self.probe(section, at, after)}")
+        elif name == "call" and operands.split()[0] == "0" and not self.related(section, int(at, 16), raw):
+            print(f"\tcall {self.source.labels[section]}")
         else:
             self.plain(section, int(at, 16), raw, operands)
 
+    def related(self, section, at, raw):
+        """The places inside an instruction that a relocation fills in. A function that calls itself needs none."""
+        return [place for place in self.source.relocations.get(section, {}) if at <= place < at + len(raw)]
+
     def plain(self, section, at, raw, operands):
         """An instruction that is no direct jump. One that names a place (objdump writes <PLACE>) must do so by a relocation."""
-        inside = [place for place in self.source.relocations.get(section, {}) if at <= place < at + len(raw)]
+        inside = self.related(section, at, raw)
         if len(inside) > 1 or ("<" in operands and not inside):
             sys.exit(f"probe.py: {section}+{at:x}: an instruction of a form that is not known here")
         for place in inside:
