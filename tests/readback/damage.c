@@ -1,6 +1,8 @@
 #include "damage.h"
 
+#include <inttypes.h>
 #include <octalmure.h>
+#include <stdio.h>
 #include <string.h>
 
 static const uint32_t borders[] = {0,   1,   2,      3,       16,      17,         32,             33,
@@ -88,21 +90,47 @@ void make_noise(Case *made, Chance *chance) {
 
 /* ---- tables ---- */
 
+/* Lines of jobs that no run has follow, as far as there is room, until a record's line is one too many. */
+static size_t one_line_too_many(uint8_t *table, size_t length, size_t room) {
+    size_t lines = 0;
+    for (size_t i = 0; i < length; i++) {
+        lines += table[i] == '\n';
+    }
+    for (; lines < 1 + OCTALMURE_MOST_JOBS + 1; lines++) {
+        char line[64];
+        size_t more = (size_t)snprintf(line, sizeof line, "%" PRIu32 ",%zu,0,0,0,0\n", UINT32_MAX, lines);
+        if (more > room - length) {
+            return length;
+        }
+        memcpy(table + length, line, more);
+        length += more;
+    }
+    return length;
+}
+
+/* All lines but the header a second time, as far as there is room. */
+static size_t lines_twice(uint8_t *table, size_t length, size_t room) {
+    const uint8_t *header_end = length > 0 ? memchr(table, '\n', length) : NULL;
+    size_t lines = header_end != NULL ? (size_t)(table + length - header_end) - 1 : 0;
+    size_t more = lines < room - length ? lines : room - length;
+    memcpy(table + length, table + length - lines, more);
+    return length + more;
+}
+
 size_t damage_table(uint8_t *table, size_t length, size_t room, Chance *chance) {
     static const char met[] = "0123456789,,\n\n\r \"+-;";
-    const uint8_t *line = length > 0 ? memchr(table, '\n', length) : NULL;
-    size_t lines = line != NULL ? (size_t)(table + length - line) - 1 : 0;
-    switch (below(chance, 4)) {
-    case 0: return length > 0 ? below(chance, length) : 0;
-    case 1: {
-        size_t more = lines < room - length ? lines : room - length;
-        memcpy(table + length, table + length - lines, more);
-        return length + more;
+    uint32_t kind = below(chance, 16);
+    if (kind == 0) {
+        return one_line_too_many(table, length, room);
     }
-    default:
-        for (uint32_t left = between(chance, 1, 2); left > 0 && length > 0; left--) {
-            table[below(chance, length)] = (uint8_t)met[below(chance, sizeof met - 1)];
-        }
-        return length;
+    if (kind < 4) {
+        return lines_twice(table, length, room);
     }
+    if (kind < 8) {
+        return length > 0 ? below(chance, length) : 0;
+    }
+    for (uint32_t left = between(chance, 1, 2); left > 0 && length > 0; left--) {
+        table[below(chance, length)] = (uint8_t)met[below(chance, sizeof met - 1)];
+    }
+    return length;
 }

@@ -12,8 +12,8 @@ void make_wild(Case *made, Chance *chance);
 /* Bytes of no meaning. */
 void make_noise(Case *made, Chance *chance);
 
-/* Some bytes of a table become others, or some are cut off, or all lines but the header stand there twice, as far as there is room.
-   Gives how many bytes it has then. */
+/* Some bytes of a table become others, or some are cut off; or, as far as there is room, all lines but the header stand there twice, or
+   so many follow that there is one too many. Gives how many bytes it has then. */
 size_t damage_table(uint8_t *table, size_t length, size_t room, Chance *chance);
 
 #endif
