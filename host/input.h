@@ -11,7 +11,7 @@
    - of a run file, one byte past the longest shows that there are too many;
    - of a table, one line past the longest: of the lines that end within these bytes either one is refused, or they are the header and
      at most 512 good ones. Then the next line begins no later than the longest table ends, and what is read of it is already as
-     long as a line can be: it is bad, whatever follows. */
+     long as a line can be: it is bad, whatever follows. Proved as `import-prefix` (crates/exchange/proofs/FrontOfTable.antt). */
 enum { MOST_RUN = OCTALMURE_MOST_FILE_BYTES + 1, MOST_TABLE = OCTALMURE_MOST_TABLE_BYTES + OCTALMURE_MOST_LINE_BYTES };
 
 typedef struct {

@@ -7,5 +7,5 @@ pub mod ThereAndBack
 pub mod SaysExactly
 pub mod ExchangeAnswers
 pub mod FrontOfTable
-pub mod Once
 pub mod ExchangeTables
+pub mod Once
