@@ -12,7 +12,7 @@
 #include <stddef.h>
 #include <stdint.h>
 
-#define OCTALMURE_VERSION "0.3.0"
+#define OCTALMURE_VERSION "0.3.1"
 
 /* One cast for both languages: C++ warns of C's. */
 #ifdef __cplusplus
@@ -229,10 +229,14 @@ static inline uint32_t octalmure_guarded_export(const uint8_t *file, size_t file
 
 /* ---- numbers, and reading an answer ---- */
 
-/* The four bytes there as a number, low byte first: as numbers stand in an answer and in a run file. */
+/* The four bytes there as a number, low byte first: as numbers stand in an answer and in a run file. The library reads them with the
+   same lines: docs/FORMAT.md lays the two side by side. */
 static inline uint32_t octalmure_number(const uint8_t *bytes) {
-    return OCTALMURE_AS(uint32_t, bytes[0]) | OCTALMURE_AS(uint32_t, bytes[1]) << 8 | OCTALMURE_AS(uint32_t, bytes[2]) << 16 |
-           OCTALMURE_AS(uint32_t, bytes[3]) << 24;
+    uint32_t a = bytes[0];
+    uint32_t b = bytes[1];
+    uint32_t c = bytes[2];
+    uint32_t d = bytes[3];
+    return a | b << 8 | c << 16 | d << 24;
 }
 
 /* The five numbers of OCTALMURE_ANSWER_BYTES bytes. */

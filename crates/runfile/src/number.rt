@@ -1,4 +1,5 @@
-// Numbers out of the bytes of a file, for any bytes: a byte past the end counts as 0.
+// Numbers out of the bytes of a file, for any bytes: a byte past the end counts as 0. Shifts and ors are those of octalmure_number in
+// include/octalmure.h: docs/FORMAT.md lays the two side by side.
 ghost use mathlib.Core.Path.{_≡_};
 ghost use Prim.Native.Nat.{_+_, _*_, _<_, _≤_};
 ghost use lib.ListN.{length, getD};
@@ -15,7 +16,7 @@ fn low_first(a: u32, b: u32, c: u32, d: u32) -> u32
     requires { ⌜ (a < 256) × (b < 256) × (c < 256) × (d < 256) ⌝ }
     ensures { λ r. ⌜ r ≡ a + 256 * (b + 256 * (c + 256 * d)) ⌝ }
 {
-    a + 256 * b + 65536 * c + 16777216 * d
+    a | b << 8 | c << 16 | d << 24
 }
 
 // The number at a place that has its four bytes: no byte is asked whether it stands before the end.

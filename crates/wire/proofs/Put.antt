@@ -1,10 +1,12 @@
 -- What four stores leave, and what numbers leave that are put one after the other at the front of a slice. Assumes nothing.
-use Prim.Native.Nat.{ℕ, suc, _+_, _*_, _/_, _%_, _≤_}
+use Prim.Native.Nat.{ℕ, suc, _+_, _*_, _/_, _%_, _≤_, _<_}
 use mathlib.Core.Path.{_≡_, refl, sym, _∙_, ap}
 use mathlib.Core.List.{List, [], _∷_, _++_, append-assoc, append-nil}
 use native.Mathlib.Numerals.{add-one, add-two, add-three}
 use native.Mathlib.Omega.{arith}
+use lib.Bits.{bitAnd, and-mask}
 use lib.ListN.{length, set, take, drop, length-append}
+use lib.Pow.{shr-mod}
 use lib.Seq.{sets-eq, take-at, drop-append-add, drop-drop}
 use Rattle.model.specs.File.{bytes4, bytesOf}
 use Rattle.model.specs.Answers.{Five}
@@ -15,6 +17,12 @@ pub put-sets : (s : List ℕ) (i v : ℕ) → i + 4 ≤ length s
     → set (set (set (set s i (v % 256)) (i + 1) (v / 256 % 256)) (i + 2) (v / 65536 % 256)) (i + 3) (v / 16777216 % 256) ≡ put s i v
 unfolding put
 put-sets s i v h = rw (add-one, add-two, add-three) (sets-eq (bytes4 v) s i h)
+
+-- the same by shifts and masks; of the highest byte nothing is to be masked
+pub put-shifted : (s : List ℕ) (i v : ℕ) → v < 4294967296 → i + 4 ≤ length s
+    → set (set (set (set s i (bitAnd v 255)) (i + 1) (bitAnd (v / 256) 255)) (i + 2) (bitAnd (v / 65536) 255)) (i + 3) (v / 16777216) ≡ put s i v
+put-shifted s i v word h =
+    rw (and-mask v 8, and-mask (v / 256) 8, and-mask (v / 65536) 8, sym (shr-mod {n = v} 8 24 word)) (put-sets s i v h)
 
 length-bytesOf : (vs : List ℕ) → length (bytesOf vs) ≡ 4 * length vs
 length-bytesOf [] = refl

@@ -8,15 +8,15 @@ ghost use Rattle.model.specs.Answers.{fiveOf};
 ghost use Rattle.model.specs.Calls.{answerSize, numbers, written};
 ghost use Rattle.wire.specs.Put.{put};
 
-// Writes a number at a place: four bytes, low byte first. Every other byte keeps its value.
+// Writes a number at a place: four bytes, low byte first, as octalmure_put_number of include/octalmure.h does. Every other byte keeps its value.
 pub fn put_u32(s: &mut [u8], at: usize, v: u32)
     requires { ⌜ at + 4 ≤ length (now s) ⌝ }
     ensures { λ _. ⌜ now (s .exit) ≡ put (now (s .entry)) at v ⌝ }
 {
-    s[at] = (v % 256) as u8;
-    s[at + 1] = (v / 256 % 256) as u8;
-    s[at + 2] = (v / 65536 % 256) as u8;
-    s[at + 3] = (v / 16777216 % 256) as u8;
+    s[at] = (v & 255) as u8;
+    s[at + 1] = (v >> 8 & 255) as u8;
+    s[at + 2] = (v >> 16 & 255) as u8;
+    s[at + 3] = (v >> 24) as u8;
 }
 
 // The five numbers of an answer.
