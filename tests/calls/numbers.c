@@ -120,7 +120,7 @@ static void try_held(Trial *trial) {
                   read_alike(trial->words, table) && trial->read;
     trial->written = octalmure_import(file, LENGTH, (const uint8_t *)table, strlen(table), again, sizeof again, answer,
                                       sizeof answer) == OCTALMURE_WRITTEN &&
-                     memcmp(again, file, LENGTH) == 0 && written_alike(trial->words, again) && trial->written;
+                     written_alike(trial->words, again) && memcmp(again, file, LENGTH) == 0 && trial->written;
 }
 
 /* ---- the words ---- */
@@ -143,8 +143,8 @@ static void begin(Trial *trial) {
 /* Every group of words is a multiple of WORDS, so that none is left. */
 static bool end(const Trial *trial, const char *which) {
     bool whole = trial->held == 0 && trial->all > 0;
-    printf("%s: %zu words are read alike, %s\n", trial->read && whole ? "right" : "wrong", trial->all, which);
-    printf("%s: %zu words are written alike, %s\n", trial->written && whole ? "right" : "wrong", trial->all, which);
+    printf("%s of %zu words are read alike, %s\n", trial->read && whole ? "right: all" : "wrong: not all", trial->all, which);
+    printf("%s of %zu words are written alike, %s\n", trial->written && whole ? "right: all" : "wrong: not all", trial->all, which);
     return trial->read && trial->written && whole;
 }
 

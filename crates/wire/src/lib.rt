@@ -8,7 +8,8 @@ ghost use Rattle.model.specs.Answers.{fiveOf};
 ghost use Rattle.model.specs.Calls.{answerSize, numbers, written};
 ghost use Rattle.wire.specs.Put.{put};
 
-// Writes a number at a place: four bytes, low byte first, as octalmure_put_number of include/octalmure.h does. Every other byte keeps its value.
+// Writes a number at a place: four bytes, low byte first, with the shifts and masks of octalmure_put_number in include/octalmure.h.
+// Every other byte keeps its value.
 pub fn put_u32(s: &mut [u8], at: usize, v: u32)
     requires { ⌜ at + 4 ≤ length (now s) ⌝ }
     ensures { λ _. ⌜ now (s .exit) ≡ put (now (s .entry)) at v ⌝ }
