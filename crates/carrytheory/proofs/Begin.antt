@@ -1,6 +1,6 @@
 -- All jobs begin, one after the other, from start to start. Assumes nothing.
 use Prim.Native.Nat.{ℕ, zero, suc, _+_, _*_, _^_, _≤_, _<_}
-use mathlib.Core.Path.{_≡_, refl, sym, _∙_}
+use mathlib.Core.Path.{_≡_, refl, sym, _∙_, ap}
 use mathlib.Core.List.{List}
 use mathlib.Core.Option.{none, some}
 use native.Mathlib.Omega.{arith}
@@ -10,14 +10,14 @@ use Rattle.base.proofs.Find.{Answers, answers}
 use Rattle.model.specs.declared.task.Task.{Task}
 use Rattle.model.specs.Model.{Run, IsRecord, rec, task, taskOf, mostHorizon, mostTime, mostJobs}
 use Rattle.model.specs.Rules.{jobsRecorded}
-use Rattle.model.specs.Carry.{starts, instantsFrom}
+use Rattle.model.specs.Carry.{Begun, starts, instantsFrom}
 use Rattle.model.specs.Compute.Jumps.{startAt, nextStart, waiting, startAll}
-use Rattle.carrytheory.proofs.Depends.{Below, ready-by}
-use Rattle.carrytheory.proofs.StartChanges.{is-record, jobs-stay, here, elsewhere}
+use Rattle.carrytheory.proofs.Readiness.{Below, some-ready}
+use Rattle.carrytheory.proofs.StartChanges.{is-record, jobs-stay, here, elsewhere, job-stays}
 use Rattle.carrytheory.proofs.Waiting.{Waits, waits}
 use Rattle.carrytheory.proofs.MayStart.{MayStart, begun-other, fewer-then, start-at, nothing-starts}
 use Rattle.carrytheory.proofs.ByStarts.{start-zero, start-some}
-use Rattle.carrytheory.proofs.Step.{Begun, Inv, step}
+use Rattle.carrytheory.proofs.Step.{Inv, step}
 
 -- there is a core, and no job runs longer than w
 pub record Able (N : ℕ) (τs : List Task) (w : ℕ) : Type 0 where
@@ -37,7 +37,7 @@ pub record NextStart (t : ℕ) (σ : Run) (M : ℕ) : Type 0 where
   pub quiet : (v : ℕ) → t ≤ v → v < u → startAt σ v ≡ none
   pub start : MayStart σ u k c
 
--- once all is released and ended, a job that waits can start
+-- once all is released and ended, of the jobs that wait one can start
 next-start : (t : ℕ) (σ : Run) (M : ℕ) → 1 ≤ σ .setting .cores → t ≤ M → M < 2 ^ 32 → Below M σ → (a : ℕ) → IsRecord σ a → rec σ a .core ≡ 0
     → NextStart t σ M
 unfolding nextStart
@@ -45,7 +45,8 @@ next-start t σ M n l m B a h z = go (answers (startAt σ) (instantsFrom t) t)
   where
     can : ¬ (startAt σ M ≡ none)
     can e =
-        let (k, r, x, y, w) = nothing-starts σ M e a h (z, ready-by σ M B a h) 1 (omega arith, n) in
+        let (i, g, c, f) = some-ready σ M B a h z in
+        let (k, r, x, y, w) = nothing-starts σ M e i g (c, f) 1 (omega arith, n) in
         let b = B k r in
         omega arith
 
@@ -65,6 +66,7 @@ module _ (σ₀ : Run) (H w latest : ℕ) where
     pub left : waiting σ ≡ m
     pub inv : Inv t σ
     pub able : Able (σ .setting .cores) (σ .tasks) w
+    pub lasting : (k : ℕ) → IsRecord σ k → 1 ≤ taskOf σ k .greatest
     -- an instant by which all is released and ended, so that each job to come adds at most w
     pub by : ℕ
     pub now : t ≤ by
@@ -78,13 +80,14 @@ module _ (σ₀ : Run) (H w latest : ℕ) where
     pub goes : startAll (waiting σ₀) H σ₀ ≡ startAll m t σ
 
   -- the first start is to come
-  pub going-first : Inv H σ₀ → Able (σ₀ .setting .cores) (σ₀ .tasks) w → (M : ℕ) → H ≤ M → Below M σ₀ → M + waiting σ₀ * w ≤ latest
+  pub going-first : Inv H σ₀ → Able (σ₀ .setting .cores) (σ₀ .tasks) w → ((k : ℕ) → IsRecord σ₀ k → 1 ≤ taskOf σ₀ k .greatest) → (M : ℕ) → H ≤ M → Below M σ₀ → M + waiting σ₀ * w ≤ latest
       → latest < 2 ^ 32 → GoingTo (waiting σ₀) H σ₀
-  going-first I A M l B f four =
+  going-first I A P M l B f four =
       record {
         left = refl;
         inv = I;
         able = A;
+        lasting = P;
         by = M;
         now = l;
         below = B;
@@ -134,14 +137,21 @@ module _ (σ₀ : Run) (H w : ℕ) {latest : ℕ} where
       kept-after : (j : ℕ) → Begun σ₀ j → rec (starts σ u k c) j ≡ rec σ₀ j
       kept-after j b = let e = G .kept j b in elsewhere σ u k c l j (begun-other σ u k c (X .start) j (rw e b)) ∙ e
 
+      lasting-after : (a : ℕ) → IsRecord (starts σ u k c) a → 1 ≤ taskOf (starts σ u k c) a .greatest
+      lasting-after a h =
+          let e : taskOf (starts σ u k c) a ≡ taskOf σ a = ap (λ q. task (σ .tasks) (q .0)) (job-stays σ u k c l (X .start .job .range) a) in
+          rw e (G .lasting a (is-record σ u k c l a h))
+
       -- and then one job less is left
       pub going-on : GoingTo σ₀ H w latest m (X .u) (starts σ (X .u) (X .k) (X .c))
       going-on =
           record {
             left = suc-inj (sym (fewer-then σ u k c l (X .start)) ∙ G .left);
             inv =
-                step t u σ (G .inv) (X .later) (λ v p q. nothing-starts σ v (X .quiet v p q)) k c l (X .start) (G .able .fit (rec σ k .task)) (omega arith);
+                step t u σ (G .inv) (X .later) (λ v p q. nothing-starts σ v (X .quiet v p q)) k c l (X .start)
+                (G .lasting k (X .start .job .range)) (G .able .fit (rec σ k .task)) (omega arith);
             able = G .able;
+            lasting = lasting-after;
             by = G .by + w;
             now = omega (arith, X .soon);
             below = below-after;
@@ -168,8 +178,9 @@ module _ (σ₀ : Run) (H w : ℕ) {latest : ℕ} where
   going-all (suc m) t σ G = let X = a-start m t σ G in going-all m (X .u) (starts σ (X .u) (X .k) (X .c)) (going-on m t σ G X)
 
 -- No job of a carry ends later than 514,000,000. By 2,000,000 all is released that is ever released (a release is below H' + J), and what
--- began before H has ended (below H + W); from then on each of at most 512 jobs adds at most its W, since one that waits keeps every core
--- busy.
+-- began before H has ended (below H + W). From then on each of at most 512 jobs adds at most its W: if by some instant all is released and
+-- whatever has begun has ended, every core is free, and of the jobs that are left the least of its task waits for no other, so that it is
+-- ready, and one starts by then. From 2,000,000 on a core is free with nothing ready only while some job runs.
 abbrev pub latestEnd : ℕ
 latestEnd = mostHorizon + mostTime + mostJobs * mostTime
 

@@ -6,12 +6,12 @@ use native.Mathlib.Omega.{arith}
 use native.Mathlib.Decide.{decLt}
 use lib.ListN.{length, List·getD-eq-default}
 use Rattle.model.specs.declared.task.Task.{Task}
-use Rattle.model.specs.Model.{Run, IsRecord, WithinLimits, TaskInRange, rec, task, noTask, mostHorizon, mostTime, mostJobs, totalJobs}
+use Rattle.model.specs.Model.{Run, IsRecord, WithinLimits, TaskInRange, rec, task, taskOf, noTask, mostHorizon, mostTime, mostJobs, totalJobs}
 use Rattle.model.specs.Rules.{rule1, rule2, rule4, Obeys}
 use Rattle.model.specs.Carry.{opening, carried}
 use Rattle.model.specs.Compute.Jumps.{waiting, carryByStarts}
 use Rattle.model.proofs.Jobs.{Good}
-use Rattle.carrytheory.proofs.Depends.{Below}
+use Rattle.carrytheory.proofs.Readiness.{Below}
 use Rattle.carrytheory.proofs.Recorded.{record-few, record-exists}
 use Rattle.carrytheory.proofs.Waiting.{waiting-size}
 use Rattle.carrytheory.proofs.ByStarts.{carried-by-starts}
@@ -67,6 +67,10 @@ module _ (ρ : Run) (L : WithinLimits ρ) where
     pub below₀ : Below (mostHorizon + mostTime) (opening ρ H′)
     below₀ k h = below-from k h (origin ρ H′ O good-tasks longer k h)
 
+    lasting₀ : (k : ℕ) → IsRecord σ₀ k → 1 ≤ taskOf σ₀ k .greatest
+    unfolding opening
+    lasting₀ k h = let T = L .tasks (rec σ₀ k .task) (job-exists ρ good-tasks H′ k h .0) in omega (arith, T .times)
+
     few-wait : waiting σ₀ ≤ mostJobs
     unfolding opening
     few-wait = omega (arith, waiting-size σ₀, record-few σ₀ (opening-jobs ρ H′))
@@ -75,7 +79,7 @@ module _ (ρ : Run) (L : WithinLimits ρ) where
     pub going₀ : Going σ₀ H mostTime (waiting σ₀) H σ₀
     unfolding opening
     going₀ =
-        going-first σ₀ H mostTime latestEnd (inv₀ ρ H′ O good-tasks longer) able (mostHorizon + mostTime) (omega arith) below₀
+        going-first σ₀ H mostTime latestEnd (inv₀ ρ H′ O good-tasks longer) able lasting₀ (mostHorizon + mostTime) (omega arith) below₀
         (omega (arith, few-wait)) (omega arith)
 
     -- and at its end

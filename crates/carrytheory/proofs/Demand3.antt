@@ -2,15 +2,17 @@
 -- that begins before H stays late. Of files: what a carry writes is accepted, and what showed a late job shows one. Assumes nothing.
 use Prim.Native.Nat.{ℕ, zero, _*_, _≤_, _<_}
 use mathlib.Core.Path.{_≡_, sym, _∙_, ap}
+use mathlib.Core.Logic.{inl, inr}
 use mathlib.Core.List.{List}
 use native.Mathlib.Omega.{arith}
+use native.Mathlib.Decide.{decLe}
 use native.Mathlib.Nat.{le-mul-of-pos-right}
 use lib.ListN.{length, length-map}
-use Rattle.model.specs.Model.{Run, IsRecord, WithinLimits, rec, taskOf, jobOf, existing, mostHorizon, mostTime, mostJobs, totalJobs}
-use Rattle.model.specs.Rules.{rule1, rule2, rule3, rule4, rule5, rule6, rule7, rule8, Obeys, Jobs}
+use Rattle.model.specs.Model.{Run, IsRecord, WithinLimits, rec, taskOf, jobOf, ready, existing, mostHorizon, mostTime, mostJobs, totalJobs}
+use Rattle.model.specs.Rules.{rule1, rule2, rule3, rule4, rule5, rule6, rule7, rule8, rule9, Obeys, Jobs, InOrder}
 use Rattle.model.specs.Answers.{Late, BeginsBeforeH, writtenOut}
 use Rattle.model.specs.File.{recordNumbers, RecordFits, whole, read, bytes, sizeOf}
-use Rattle.model.specs.Carry.{opening, carried, carry}
+use Rattle.model.specs.Carry.{Begun, opening, carried, carry}
 use Rattle.model.specs.Compute.Verdict.{verdict, checkOf, check}
 use Rattle.model.proofs.Jobs.{existing-few}
 use Rattle.model.proofs.Demand2.{accepted-exactly-if-obeyed}
@@ -18,7 +20,8 @@ use Rattle.model.proofs.Reading.{read-limits}
 use Rattle.model.proofs.RoundTrip.{Fits, fits-nil, fits-cons, length-bytes, read-back}
 use Rattle.carrytheory.proofs.Depends.{same-due, existing-same}
 use Rattle.carrytheory.proofs.Recorded.{record-exists}
-use Rattle.carrytheory.proofs.Step.{Begun, Inv}
+use Rattle.carrytheory.proofs.Readiness.{ready-is, release-ready, ready-then}
+use Rattle.carrytheory.proofs.Step.{NotPassed, Inv}
 use Rattle.carrytheory.proofs.Begin.{Going, going-done, latestEnd}
 use Rattle.carrytheory.proofs.AtH.{opening-recorded, opening-jobs, place}
 use Rattle.carrytheory.proofs.CarryGates.{Carries, carries, carry-passes}
@@ -29,12 +32,21 @@ use Rattle.carrytheory.proofs.CarryEnds.{good-tasks, done}
 all-begun : (σ : Run) (t : ℕ) → Jobs σ → Inv t σ → ((k : ℕ) → IsRecord σ k → Begun σ k) → Obeys σ
 all-begun σ t J I b rule1 = J
 all-begun σ t J I b rule2 = I .releases
-all-begun σ t J I b rule3 = λ k h. I .started k h (b k h)
+all-begun σ t J I b rule3 = λ k h. omega (arith, release-ready σ k, I .started k h (b k h) .instant)
 all-begun σ t J I b rule4 = λ k h. I .lengths k h (b k h)
 all-begun σ t J I b rule5 = λ k h. (b k h, I .cores k h)
 all-begun σ t J I b rule6 = λ x y l h. I .apart x y l h (b x (omega arith))
-all-begun σ t J I b rule7 = λ x y h l e. I .order x y h l (b x h) (λ w. e)
-all-begun σ t J I b rule8 = λ a h v w c i. I .no-idling a h v (w .0, λ z. w .1, λ z. absurd (z (b a h))) c i
+all-begun σ t J I b rule7 = λ x y h l e. in-order x y (I .order x y h l (b x h) (λ w. e))
+  where
+    in-order : (x y : ℕ) → NotPassed σ x y → InOrder σ x y
+    in-order x y (inl r) = inl r
+    in-order x y (inr f) = late (decLe (ready σ y) (rec σ x .start))
+      where
+        late : Dec (ready σ y ≤ rec σ x .start) → InOrder σ x y
+        late (yes l) = absurd (f (ready-then σ b y (rec σ x .start) l))
+        late (no l) = inr (omega (arith, l))
+all-begun σ t J I b rule8 = λ a h v w c i. I .no-idling a h v (ready-then σ b a v (w .0), λ z. w .1, λ z. absurd (z (b a h))) c i
+all-begun σ t J I b rule9 = λ k h. omega (arith, ready-is σ k, I .started k h (b k h) .instant)
 
 module _ (ρ : Run) (H′ : ℕ) (L : WithinLimits ρ) (O : Obeys ρ) (longer : ρ .setting .horizon ≤ H′) (most : H′ ≤ mostHorizon)
     (few : totalJobs (ρ .tasks) H′ ≤ mostJobs) where

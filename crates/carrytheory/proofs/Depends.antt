@@ -1,13 +1,12 @@
--- What the deadline, the rank, the instant from which a job may start and the existing jobs depend on. Assumes nothing.
-use Prim.Native.Nat.{ℕ, _≤_, _<_}
+-- What the deadline, the rank and the existing jobs depend on. Assumes nothing.
+use Prim.Native.Nat.{ℕ, suc, _<_}
 use mathlib.Core.Path.{_≡_, sym, subst, _∙_, ap}
 use mathlib.Core.Logic.{_↔_}
 use mathlib.Core.List.{List}
-use native.Mathlib.Omega.{arith}
 use lib.ListN.{length, getD}
-use Rattle.model.specs.Model.{Run, Job, Exists, IsRecord, rec, task, jobOf, jobs, due, rank, ready, existing}
+use Rattle.model.specs.Model.{Run, Job, Exists, rec, task, jobOf, jobs, due, rank, existing}
 use Rattle.model.specs.Rules.{jobsRecorded}
-use Rattle.model.proofs.Jobs.{Stands, Lower, Good, existing-jobs, rising, distinct, exists-iff}
+use Rattle.model.proofs.Jobs.{Stands, Lower, Good, existing-jobs, before-stands, rising, distinct, exists-iff}
 
 -- the same job of the same tasks, released at the same instant
 module _ (ρ σ : Run) (a b : ℕ) (tasks : ρ .tasks ≡ σ .tasks) (job : jobOf (rec ρ a) ≡ jobOf (rec σ b)) (release : rec ρ a .release ≡ rec σ b .release) where
@@ -21,26 +20,6 @@ module _ (ρ σ : Run) (a b : ℕ) (tasks : ρ .tasks ≡ σ .tasks) (job : jobO
   pub same-rank : rank ρ a ≡ rank σ b
   unfolding rank
   same-rank = same-due
-
--- no job may start before its release
-pub release-ready : (ρ : Run) (k : ℕ) → rec ρ k .release ≤ ready ρ k
-unfolding ready
-release-ready ρ k = omega arith
-
--- by instant M every job is released, and whatever has begun has ended
-abbrev pub Below : ℕ → Run → Type 0
-Below M σ = (k : ℕ) → IsRecord σ k → (rec σ k .release ≤ M) × (rec σ k .end ≤ M)
-
--- and then each may
-pub ready-by : (σ : Run) (M : ℕ) → Below M σ → (k : ℕ) → IsRecord σ k → ready σ k ≤ M
-unfolding ready
-ready-by σ M B k h = B k h .0
-
--- When a job may start depends on its release alone: the one law here that fails where a job also waits for the end of the job before it,
--- and that is then said of both, by an instant t (released by t, and the job before ended by t).
-pub same-ready : (ρ σ : Run) (a b : ℕ) → rec ρ a .release ≡ rec σ b .release → ready ρ a ≡ ready σ b
-unfolding ready
-same-ready ρ σ a b e = rw e
 
 -- The existing jobs of a run
 -- --------------------------
@@ -58,6 +37,13 @@ module _ (ρ : Run) (H : ℕ) where
     where
       Distinct : List Job → Type 0
       Distinct qs = (k l : ℕ) → k < length qs → l < length qs → getD qs k (0, 0) ≡ getD qs l (0, 0) → k ≡ l
+
+  -- with a job that is not its task's first stands the one before it
+  pub existing-before : (i j : ℕ) → Stands (existing ρ H) (i, suc j) → Stands (existing ρ H) (i, j)
+  existing-before = subst Follows (sym (existing-jobs ρ H)) (before-stands (ρ .tasks) H)
+    where
+      Follows : List Job → Type 0
+      Follows qs = (i j : ℕ) → Stands qs (i, suc j) → Stands qs (i, j)
 
   -- a job stands among them exactly if its task is there and it exists
   pub existing-iff : Good (ρ .tasks) → (q : Job) → Stands (existing ρ H) q ↔ ((q .0 < length (ρ .tasks)) × Exists (task (ρ .tasks) (q .0)) H (q .1))

@@ -9,14 +9,14 @@ use mathlib.Core.Option.{Option, none, some}
 use lib.Dec.{ltb}
 use Rattle.base.proofs.Test.{says-ltb, says-true}
 use Rattle.base.proofs.Searches.{Finds}
-use Rattle.model.specs.Model.{Run, Job, IsRecord, rec, jobOf}
+use Rattle.model.specs.Model.{Run, Job, IsRecord, rec, jobOf, placeOf}
 use Rattle.model.specs.Rules.{Jobs}
 use Rattle.model.specs.Answers.{BeginsBeforeH, writtenOut}
 use Rattle.model.specs.File.{Bytes, bytesOf, recordNumbers, whole, read, bytes, Part, partOf, recordPart}
-use Rattle.model.specs.Carry.{placeOf, carried, carry, Source, inRecorded, inCarried, leastOf, beganBefore, shownCarried, shownIf, shownOf, shown}
+use Rattle.model.specs.Carry.{carried, carry, Source, inRecorded, inCarried, leastOf, beganBefore, shownCarried, shownIf, shownOf, shown}
 use Rattle.model.proofs.Reading.{read-limits}
 use Rattle.carrytheory.proofs.Recorded.{one-record}
-use Rattle.carrytheory.proofs.AtH.{RecordOf, place-finds}
+use Rattle.carrytheory.proofs.Preceding.{RecordOf, place-finds, least-is}
 use Rattle.carrytheory.proofs.CarryGates.{carries, carry-passes}
 use Rattle.carrytheory.proofs.Demand3.{carried-jobs, carried-reads, kept}
 use Rattle.model.proofs.RecordBytes.{written-are-bytes, record-bytes}
@@ -45,14 +45,6 @@ from-carried b c (some k) = refl
 carried≢recorded : (c : List ℕ) (o : Option ℕ) → ¬ FromRecorded (shownCarried c o)
 carried≢recorded c none (p, e) = let z : true ≡ false = cc in true≢false z
 carried≢recorded c (some k) (p, e) = let z : true ≡ false = cc in true≢false z
-
--- the one record of a job is its least
-least-is : (ρ : Run) → Jobs ρ → (k : ℕ) (q : Job) → RecordOf ρ q k → placeOf ρ q ≡ some k
-least-is ρ J k q (h, e) = go (place-finds ρ q)
-  where
-    go : Finds _<_ (RecordOf ρ q) (placeOf ρ q) → placeOf ρ q ≡ some k
-    go (Finds.none-passes z f) = absurd (f k (h, e))
-    go (Finds.passes p z F) = z ∙ ap some (one-record ρ J p k (F .here .0) h (F .here .1 ∙ sym e))
 
 -- Where a job is shown from, of a recorded file that tells ρ and any other file.
 -- ------------------------------------------------------------------------------

@@ -1,11 +1,12 @@
 pub mod Depends
 pub mod Recorded
+pub mod Preceding
+pub mod Readiness
 pub mod StartChanges
 pub mod Waiting
 pub mod MayStart
 pub mod ByStarts
 pub mod Step
-pub mod InTurn
 pub mod Begin
 pub mod NextInstant
 pub mod AtH

@@ -2,12 +2,12 @@
 -- the same core. Assumes nothing.
 use Prim.Native.Nat.{ℕ, _+_, _≤_, _<_}
 use mathlib.Core.Path.{_≡_, refl, sym, subst, _∙_, ap}
-use mathlib.Core.Bool.{Bool, true, false, not}
+use mathlib.Core.Bool.{not}
 use mathlib.Core.Option.{Option, none, some}
 use native.Mathlib.Omega.{arith}
 use native.Mathlib.Decide.{ℕ-discrete}
 use Rattle.base.specs.Find.{first}
-use Rattle.base.proofs.Test.{Says, says-true, says-false}
+use Rattle.base.proofs.Test.{says-same}
 use Rattle.base.proofs.Searches.{Finds, finds-none}
 use Rattle.model.specs.Model.{Run, Job, IsRecord, rec, task, taskOf, jobOf, arrival}
 use Rattle.model.specs.Rules.{Jobs, Busy}
@@ -15,16 +15,18 @@ use Rattle.model.specs.Carry.{unbegun, next, begun, startsFor, starts, both}
 use Rattle.model.specs.Compute.Places.{busy, idleCore}
 use Rattle.model.specs.Compute.Jumps.{startAt}
 use Rattle.model.proofs.RuleTests.{says-busy}
-use Rattle.carrytheory.proofs.Depends.{same-rank, same-ready, release-ready}
+use Rattle.carrytheory.proofs.Depends.{same-rank}
 use Rattle.carrytheory.proofs.Recorded.{one-record}
+use Rattle.carrytheory.proofs.Preceding.{BothAfter, both-after}
+use Rattle.carrytheory.proofs.Readiness.{SameBefore, same-back, same-ready-by, release-ready}
 use Rattle.carrytheory.proofs.MayStart.{CanStart, GoesBefore, IsNext, next-finds, next-iff}
 use Rattle.carrytheory.proofs.StartChanges.{is-record, still-record, rule1-stays, here, elsewhere}
 
 -- Where the records of two runs are the same
 -- ------------------------------------------
 module _ (σ τ : Run) (t : ℕ) (tasks : τ .tasks ≡ σ .tasks) where
-  can-start-too : (k j : ℕ) → rec τ j ≡ rec σ k → CanStart σ t k → CanStart τ t j
-  can-start-too k j e c = (ap (λ x. x .core) e ∙ c .0, rw (same-ready τ σ j k (ap (λ x. x .release) e)) (c .1))
+  can-start-too : (k j : ℕ) → rec τ j ≡ rec σ k → SameBefore σ k τ j → CanStart σ t k → CanStart τ t j
+  can-start-too k j e S c = (ap (λ x. x .core) e ∙ c .0, same-ready-by σ τ k j (ap (λ x. x .release) (sym e)) t S (c .1))
 
   goes-before-too : (a k i j : ℕ) → rec τ i ≡ rec σ a → rec τ j ≡ rec σ k → GoesBefore σ a k → GoesBefore τ i j
   goes-before-too a k i j d e b =
@@ -32,23 +34,22 @@ module _ (σ τ : Run) (t : ℕ) (tasks : τ .tasks ≡ σ .tasks) where
       let y = same-rank τ σ j k tasks (ap jobOf e) (ap (λ x. x .release) e) in
       rw (x, y, d, e) b
 
+-- before the same record in both the same stands
+abbrev AlikeBefore : Run → Run → Type 0
+AlikeBefore σ τ = (k j : ℕ) → IsRecord σ k → IsRecord τ j → rec τ j ≡ rec σ k → SameBefore σ k τ j
+
 -- the next job of σ is the next of τ, where what can start in τ is a job of σ
-next-too : (σ τ : Run) (t : ℕ) → τ .tasks ≡ σ .tasks
+next-too : (σ τ : Run) (t : ℕ) → τ .tasks ≡ σ .tasks → AlikeBefore σ τ
     → ((i : ℕ) → IsRecord τ i → CanStart τ t i → (a : ℕ) × IsRecord σ a × (rec τ i ≡ rec σ a))
     → (k j : ℕ) → IsRecord τ j → rec τ j ≡ rec σ k → IsNext σ t k → IsNext τ t j
-next-too σ τ t tasks f k j h e N =
+next-too σ τ t tasks S f k j h e N =
     record {
       range = h;
-      can = can-start-too σ τ t tasks k j e (N .can);
+      can = can-start-too σ τ t tasks k j e (S k j (N .range) h e) (N .can);
       first = λ i l c b.
           let (a, m, d) = f i l c in
-          N .first a m (can-start-too τ σ t (sym tasks) i a (sym d) c) (goes-before-too τ σ t (sym tasks) i j a k (sym d) (sym e) b);
+          N .first a m (can-start-too τ σ t (sym tasks) i a (sym d) (same-back (S a i m l d)) c) (goes-before-too τ σ t (sym tasks) i j a k (sym d) (sym e) b);
     }
-
--- two tests of the same
-same-test : {b d : Bool} {A B : Type 0} → Says b A → Says d B → (A → B) → (B → A) → b ≡ d
-same-test {b = true} x y f g = sym (says-true y (f (x .sound refl)))
-same-test {b = false} x y f g = sym (says-false y (λ z. x .refutes refl (g z)))
 
 -- Longer
 -- ------
@@ -80,7 +81,7 @@ module _ (H′ : ℕ) (σ τ : Run) where
 -- --------------------
 module _ (H′ : ℕ) (σ τ : Run) (X : Longer H′ σ τ) (t : ℕ) (below : t < H′) where
   same-busy : (c : ℕ) → busy τ c t ≡ busy σ c t
-  same-busy c = same-test (says-busy τ c t) (says-busy σ c t) less more
+  same-busy c = says-same (says-busy τ c t) (says-busy σ c t) less more
     where
       less : Busy τ c t → Busy σ c t
       less (j, l, e, p, q) = go (X .back j l)
@@ -103,7 +104,17 @@ module _ (H′ : ℕ) (σ τ : Run) (X : Longer H′ σ τ) (t : ℕ) (below : t
       go (shared k h s) = (k, h, s)
       go (added q h s) =
           let r : rec τ j .release ≡ arrival (task (τ .tasks) (q .0)) (q .1) = ap (λ x. x .release) s in
-          absurd (omega (arith, release-ready τ j, c .1))
+          absurd (omega (arith, release-ready τ j, c .1 .instant))
+
+  alike-before : AlikeBefore σ τ
+  alike-before k j h l s = go (both-after σ τ (X .shorter-jobs) (X .longer-jobs) k j h l (ap jobOf (sym s)))
+    where
+      go : BothAfter σ k τ j → SameBefore σ k τ j
+      go (BothAfter.no-job d e) = SameBefore.no-job d e
+      go (BothAfter.one-job p q d e g m w) =
+          let (i, n, z) = X .into p g in
+          let y = one-record τ (X .longer-jobs) i q n m (ap jobOf z ∙ w) in
+          SameBefore.one-job p q d e (sym z ∙ ap (rec τ) y)
 
   next-together : NextTogether H′ σ τ t
   next-together = go (next-finds σ t)
@@ -114,10 +125,10 @@ module _ (H′ : ℕ) (σ τ : Run) (X : Longer H′ σ τ) (t : ℕ) (below : t
           nobody : (j : ℕ) → ¬ IsNext τ t j
           nobody j N =
               let (k, h, s) = can-shared j (N .range) (N .can) in
-              f k (next-too τ σ t (sym (X .tasks)) (λ i l c. let (a, m, d) = X .into i l in (a, m, sym d)) j k h (sym s) N)
+              f k (next-too τ σ t (sym (X .tasks)) (λ i a l m d. same-back (alike-before a i m l (sym d))) (λ i l c. let (a, m, d) = X .into i l in (a, m, sym d)) j k h (sym s) N)
       go (Finds.passes k e F) =
           let (j, l, s) = X .into k (F .here .range) in
-          a-next k j e (next-iff τ (one-record τ (X .longer-jobs)) t j .1 (next-too σ τ t (X .tasks) can-shared k j l s (F .here))) s
+          a-next k j e (next-iff τ (one-record τ (X .longer-jobs)) t j .1 (next-too σ τ t (X .tasks) alike-before can-shared k j l s (F .here))) s
 
   pub together : Together H′ σ τ t
   unfolding startAt

@@ -8,16 +8,17 @@ use native.Mathlib.Omega.{arith}
 use native.Mathlib.Decide.{decLe}
 use Rattle.base.specs.Find.{first}
 use Rattle.base.specs.First.{Lex}
-use Rattle.base.proofs.Test.{Says, says-leb, says-ltb, says-eqb, says-and, says-or, says-not, decides, stable}
+use Rattle.base.proofs.Test.{Says, says-ltb, says-eqb, says-and, says-or, says-not, decides, stable}
 use Rattle.base.proofs.Find.{some≢none}
 use Rattle.base.proofs.Searches.{Finds, total-number, total-lex, finds-none, finds-some, first-finds, finds-same, found-says}
-use Rattle.model.specs.Model.{Run, IsRecord, rec, jobOf, rank, ready}
+use Rattle.model.specs.Model.{Run, IsRecord, rec, jobOf, rank}
 use Rattle.model.specs.Rules.{IsCore, Busy}
-use Rattle.model.specs.Carry.{canStart, goesBefore, outdone, next, both, startsFor}
+use Rattle.model.specs.Carry.{ReadyBy, canStart, goesBefore, outdone, next, both, startsFor}
 use Rattle.model.specs.Compute.Places.{size, idleCore}
 use Rattle.model.specs.Compute.Jumps.{startAt, waiting}
 use Rattle.model.proofs.RuleTests.{says-busy}
 use Rattle.model.proofs.Places.{idle-core-finds}
+use Rattle.carrytheory.proofs.Readiness.{says-ready-by}
 use Rattle.carrytheory.proofs.Waiting.{below-suc, fewer-wait}
 
 -- The best of finitely many
@@ -64,12 +65,12 @@ module _ (C : ℕ → Type 0) (C? : (k : ℕ) → Dec (C k)) (B : ℕ → ℕ �
 -- The next job
 -- ------------
 module _ (σ : Run) where
-  -- job k is released and has not begun
+  -- job k is ready and has not begun
   abbrev pub CanStart : ℕ → ℕ → Type 0
-  CanStart t k = (rec σ k .core ≡ 0) × (ready σ k ≤ t)
+  CanStart t k = (rec σ k .core ≡ 0) × ReadyBy σ k t
 
   says-can-start : (t k : ℕ) → Says (canStart σ t k) (CanStart t k)
-  says-can-start t k = says-and (says-eqb _ _) (says-leb _ _)
+  says-can-start t k = says-and (says-eqb _ _) (says-ready-by σ k t)
 
   abbrev key : ℕ → ℕ × (ℕ × ℕ)
   key k = (rank σ k, (rec σ k .task, rec σ k .job))

@@ -9,9 +9,9 @@ use native.Mathlib.Decide.{decLe}
 use Rattle.base.proofs.Find.{Answers, answers, some≢none}
 use Rattle.model.specs.Model.{Run, IsRecord, rec, ready}
 use Rattle.model.specs.Rules.{IsCore, Busy}
-use Rattle.model.specs.Carry.{starts, instantsFrom}
+use Rattle.model.specs.Carry.{BegunBefore, starts, instantsFrom}
 use Rattle.model.specs.Compute.Jumps.{startAt, nextStart}
-use Rattle.carrytheory.proofs.Depends.{ready-by}
+use Rattle.carrytheory.proofs.Readiness.{ready-by}
 use Rattle.carrytheory.proofs.MayStart.{start-at}
 use Rattle.carrytheory.proofs.Begin.{GoingTo, going-on}
 
@@ -52,13 +52,14 @@ module _ (σ₀ : Run) (H w : ℕ) {latest : ℕ} (m t : ℕ) (σ : Run) (G : Go
   pub ready-fits : (k : ℕ) → IsRecord σ k → max (max t f) (ready σ k) + w < 2 ^ 32
   ready-fits k h = omega (arith, ready-soon k h, G .fits, G .four-bytes)
 
-  -- Job k starts at u on core c, and no job that waits is ready sooner: the carry goes on from there.
+  -- Job k starts at u on core c, and no job that waits, and that can once it is ready, is ready sooner: the carry goes on from there.
   module _ (u k c : ℕ) (start : startAt σ u ≡ some (k, c)) (now : max (max t f) (ready σ k) ≡ u)
-      (least : (j : ℕ) → IsRecord σ j → rec σ j .core ≡ 0 → u ≤ max (max t f) (ready σ j)) where
+      (least : (j : ℕ) → IsRecord σ j → rec σ j .core ≡ 0 → BegunBefore σ j → u ≤ max (max t f) (ready σ j)) where
     no-sooner : (v j d : ℕ) → t ≤ v → startAt σ v ≡ some (j, d) → u ≤ v
     no-sooner v j d l e =
         let S = start-at σ v j d e in
-        omega (arith, least j (S .job .range) (S .job .can .0), S .job .can .1, free-ended v d l (S .core) (S .free))
+        let R = S .job .can .1 in
+        omega (arith, least j (S .job .range) (S .job .can .0) (R .begun-before), R .instant, free-ended v d l (S .core) (S .free))
 
     soon : u ≤ G .by
     soon = rw now at (ready-soon k (start-at σ u k c start .job .range))

@@ -8,13 +8,12 @@ use lib.Dec.{ltb}
 use lib.ListN.{length, getD}
 use Rattle.base.proofs.Test.{says-ltb, says-true, says-false}
 use Rattle.base.proofs.Searches.{Finds}
-use Rattle.model.specs.Model.{Run, Job, IsRecord, rec, task, arrival, jobOf, jobs, existing, noRecord}
+use Rattle.model.specs.Model.{Run, Job, IsRecord, rec, task, arrival, jobOf, jobs, existing, noRecord, placeOf}
 use Rattle.model.specs.Rules.{Jobs}
-use Rattle.model.specs.Carry.{placeOf, unbegun, keptIf, atHOf, atH, opening}
+use Rattle.model.specs.Carry.{Begun, unbegun, keptIf, atHOf, atH, opening}
 use Rattle.model.proofs.Jobs.{Good, existing-jobs}
-use Rattle.carrytheory.proofs.Recorded.{one-record, record-exists}
-use Rattle.carrytheory.proofs.Step.{Begun}
-use Rattle.carrytheory.proofs.AtH.{RecordOf, place-finds}
+use Rattle.carrytheory.proofs.Recorded.{record-exists}
+use Rattle.carrytheory.proofs.Preceding.{RecordOf, place-finds, least-is}
 use Rattle.carrytheory.proofs.Longer.{Longer, SharedOrAdded, shared, added}
 use Rattle.carrytheory.proofs.RunsOn.{Later}
 use Rattle.carrytheory.proofs.GoTogether.{Settled, began, waits, AllSettled}
@@ -34,13 +33,6 @@ module _ (χ σ τ : Run) (J : Jobs χ) (good : Good (χ .tasks)) (all-begun : (
   abbrev H : ℕ
   H = χ .setting .horizon
 
-  placed : (k : ℕ) → IsRecord χ k → placeOf χ (jobOf (rec χ k)) ≡ some k
-  placed k h = go (place-finds χ (jobOf (rec χ k)))
-    where
-      go : Finds _<_ (RecordOf χ (jobOf (rec χ k))) (placeOf χ (jobOf (rec χ k))) → placeOf χ (jobOf (rec χ k)) ≡ some k
-      go (Finds.none-passes e f) = absurd (f k (h, refl))
-      go (Finds.passes p e P) = e ∙ ap some (one-record χ J p k (P .here .0) h (P .here .1))
-
   not-placed : (q : Job) → H ≤ arrival (task (χ .tasks) (q .0)) (q .1) → placeOf χ q ≡ none
   not-placed q l = go (place-finds χ q)
     where
@@ -52,7 +44,7 @@ module _ (χ σ τ : Run) (J : Jobs χ) (good : Good (χ .tasks)) (all-begun : (
           absurd (omega arith)
 
   there : (k : ℕ) → IsRecord χ k → atH χ (jobOf (rec σ k)) ≡ keptIf (ltb (rec χ k .start) H) (jobOf (rec σ k)) (rec χ k)
-  there k h = ap (atHOf χ (jobOf (rec σ k))) (ap (placeOf χ) (sym (R .job k)) ∙ placed k h)
+  there k h = ap (atHOf χ (jobOf (rec σ k))) (ap (placeOf χ) (sym (R .job k)) ∙ least-is χ J k (jobOf (rec χ k)) (h, refl))
 
   -- a job that τ shares with σ, that had begun or that waits
   old-again : (k : ℕ) → IsRecord χ k → Settled H (rec σ k) → atH χ (jobOf (rec σ k)) ≡ rec σ k

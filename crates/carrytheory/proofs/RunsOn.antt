@@ -6,12 +6,11 @@ use native.Mathlib.Decide.{ℕ-discrete}
 use lib.ListN.{length}
 use Rattle.base.proofs.Find.{Answers, answers}
 use Rattle.model.specs.Model.{Run, rec, taskOf, jobOf}
-use Rattle.model.specs.Carry.{begun, startsFor, starts, instantsFrom}
+use Rattle.model.specs.Carry.{Begun, begun, startsFor, starts, instantsFrom}
 use Rattle.model.specs.Compute.Jumps.{startAt, nextStart, startAll}
 use Rattle.carrytheory.proofs.StartChanges.{as-many, here, elsewhere}
 use Rattle.carrytheory.proofs.MayStart.{MayStart, begun-other, start-at}
 use Rattle.carrytheory.proofs.ByStarts.{start-zero, start-some, start-none}
-use Rattle.carrytheory.proofs.Step.{Begun}
 
 pub record Later (t : ℕ) (σ χ : Run) : Type 0 where
   pub as-many : length (χ .records) ≡ length (σ .records)

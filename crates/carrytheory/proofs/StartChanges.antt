@@ -1,15 +1,18 @@
--- What a start changes: of one record its start, end and core. Assumes nothing.
-use Prim.Native.Nat.{ℕ, _≤_}
+-- What a start changes: of one record its start, end and core, and when the job after it is ready. Assumes nothing.
+use Prim.Native.Nat.{ℕ, _+_, _≤_, max}
 use mathlib.Core.Path.{_≡_, refl, sym, _∙_, ap}
+use mathlib.Core.Option.{Option, none, some}
 use native.Mathlib.Omega.{arith}
 use native.Mathlib.Decide.{ℕ-discrete}
 use lib.ListN.{length, length-set}
 use lib.Seq.{getD-set-same, getD-set-other, map-set-same}
 use Rattle.model.specs.declared.record.Record.{Record}
-use Rattle.model.specs.Model.{Run, IsRecord, rec, noRecord, jobOf, rank, ready}
+use Rattle.model.specs.Model.{Run, IsRecord, rec, noRecord, jobOf, rank, preceding, ready}
 use Rattle.model.specs.Rules.{Jobs, jobsRecorded}
-use Rattle.model.specs.Carry.{begun, startsFor}
-use Rattle.carrytheory.proofs.Depends.{same-rank, same-ready, existing-same}
+use Rattle.model.specs.Carry.{ReadyBy, begun, startsFor}
+use Rattle.carrytheory.proofs.Depends.{same-rank, existing-same}
+use Rattle.carrytheory.proofs.Preceding.{same-preceding}
+use Rattle.carrytheory.proofs.Readiness.{SameBefore, no-job, one-job, ready-after, same-back, same-ready, same-ready-by}
 
 module _ (σ : Run) (u k c l : ℕ) where
   abbrev σ′ : Run
@@ -55,6 +58,32 @@ module _ (σ : Run) (u k c l : ℕ) where
     pub rank-stays : (a : ℕ) → rank (startsFor σ u k c l) a ≡ rank σ a
     rank-stays a = same-rank σ′ σ a a refl (job-stays a) (release-stays a)
 
-    -- a start makes no job ready sooner
-    pub ready-rises : (a : ℕ) → ready σ a ≤ ready (startsFor σ u k c l) a
-    ready-rises a = omega (arith, same-ready σ′ σ a a (release-stays a))
+    pub preceding-stays : (a : ℕ) → preceding (startsFor σ u k c l) a ≡ preceding σ a
+    preceding-stays = same-preceding σ′ σ as-many job-stays
+
+    -- before every job but the next of its task the same stands
+    same-before : (a : ℕ) → ¬ (preceding σ a ≡ some k) → SameBefore σ a σ′ a
+    same-before a f = go (preceding σ a) refl
+      where
+        go : (o : Option ℕ) → preceding σ a ≡ o → SameBefore σ a σ′ a
+        go none e = no-job e (preceding-stays a ∙ e)
+        go (some p) e = one-job p p e (preceding-stays a ∙ e) (sym (elsewhere p (λ z. f (e ∙ ap some z))))
+
+    pub ready-stays : (a : ℕ) → ¬ (preceding σ a ≡ some k) → ready (startsFor σ u k c l) a ≡ ready σ a
+    ready-stays a f = sym (same-ready σ σ′ a a (sym (release-stays a)) (same-before a f))
+
+    -- the next of its task is not ready while the job runs
+    pub ready-next : (a : ℕ) → preceding σ a ≡ some k → ready (startsFor σ u k c l) a ≡ max (rec σ a .release) (u + l)
+    ready-next a e =
+        ready-after σ′ a k (preceding-stays a ∙ e) ∙ (λ κ. max (release-stays a κ) (here κ .end))
+
+    module _ (waits : rec σ k .core ≡ 0) where
+      -- a job that is ready stays so
+      pub still-ready : (a v : ℕ) → ReadyBy σ a v → ReadyBy (startsFor σ u k c l) a v
+      still-ready a v R =
+          same-ready-by σ σ′ a a (sym (release-stays a)) v (same-before a (λ e. let b = R .begun-before k e in omega arith)) R
+
+    -- and a start makes no job ready sooner
+    pub no-sooner-ready : 1 ≤ l → (a v : ℕ) → v ≤ u → ReadyBy (startsFor σ u k c l) a v → ReadyBy σ a v
+    no-sooner-ready lasts a v early R =
+        same-ready-by σ′ σ a a (release-stays a) v (same-back (same-before a (λ e. omega (arith, R .instant, ready-next a e)))) R

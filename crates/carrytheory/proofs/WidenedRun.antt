@@ -11,14 +11,15 @@ use lib.ListN.{length}
 use Rattle.base.specs.Find.{first, count}
 use Rattle.base.specs.First.{Number}
 use Rattle.model.specs.declared.task.Task.{Task}
-use Rattle.model.specs.Model.{Run, rec, task, arrival, jobCount, counts, jobsFrom, existing, due, rank, ready}
-use Rattle.model.specs.Rules.{rule1, rule2, rule3, rule4, rule5, rule6, rule7, rule8, Obeys}
+use Rattle.model.specs.Model.{Run, rec, task, arrival, jobCount, counts, jobsFrom, existing, due, rank, endBefore, ready}
+use Rattle.model.specs.Rules.{rule1, rule2, rule3, rule4, rule5, rule6, rule7, rule8, rule9, Obeys}
 use Rattle.model.specs.Answers.{Late, LateRecords}
 use Rattle.model.specs.Widen.{WiderTask, Wider, none-left, wider, withTasks}
 use Rattle.model.specs.Compute.Places.{size}
 use Rattle.model.specs.Compute.Verdict.{lateCount, timelyOf, timely, verdict}
 use Rattle.model.proofs.Jobs.{existing-jobs}
 use Rattle.model.proofs.Verdict.{accepted}
+use Rattle.carrytheory.proofs.Readiness.{SameBefore, same-records, same-end, same-ready as ready-alike}
 
 wider-at : {τs σs : List Task} → Wider τs σs → (i : ℕ) → WiderTask (task τs i) (task σs i)
 wider-at none-left i = record { period = refl; offset = refl; jitter = omega arith; least = omega arith; greatest = omega arith }
@@ -52,9 +53,11 @@ module _ (ρ : Run) (σs : List Task) (v : Wider (ρ .tasks) σs) where
   unfolding rank
   same-rank = same-due
 
+  before : (k : ℕ) → SameBefore σ k ρ k
+  before = same-records σ ρ refl (λ k. refl)
+
   same-ready : (k : ℕ) → ready σ k ≡ ready ρ k
-  unfolding ready
-  same-ready k = refl
+  same-ready k = ready-alike σ ρ k k refl (before k)
 
   pub widened-obeys : Obeys ρ → Obeys (withTasks ρ σs)
   widened-obeys O rule1 = O rule1 ∙ sym (same-existing (ρ .setting .horizon))
@@ -72,6 +75,7 @@ module _ (ρ : Run) (σs : List Task) (v : Wider (ρ .tasks) σs) where
   widened-obeys O rule6 = O rule6
   widened-obeys O rule7 = λ a b h l s. rw (same-rank a, same-rank b, same-ready b) (O rule7 a b h l s)
   widened-obeys O rule8 = λ a h t w c i. O rule8 a h t (rw same-ready at (w .0), w .1) c i
+  widened-obeys O rule9 = λ k h. rw (same-end (before k)) (O rule9 k h)
 
   all-due : due σ ≡ due ρ
   all-due κ k = same-due k κ

@@ -7,9 +7,8 @@ use mathlib.Core.Option.{Option, none, some}
 use lib.ListN.{length, getD}
 use Rattle.base.specs.Find.{first, found}
 use Rattle.model.specs.declared.record.Record.{Record}
-use Rattle.model.specs.Model.{Job, jobOf, mostRecords, noRecord}
+use Rattle.model.specs.Model.{Job, jobOf, mostRecords, noRecord, sameJob}
 use Rattle.model.specs.File.{RecordFits}
-use Rattle.model.specs.Compute.Places.{sameJob}
 use Rattle.sorting.specs.Sorted.{Each, Rises}
 use Rattle.exchange.specs.RecordLine.{header, tableOf, LineFirst}
 use Rattle.exchange.specs.LineIn.{lineIn, after}

@@ -10,7 +10,7 @@ use lib.ListN.{length, drop, length-map}
 use Rattle.base.specs.First.{First, Number}
 use Rattle.model.specs.Model.{Run, IsRecord, rec, jobOf, existing, WithinLimits, totalJobs}
 use Rattle.model.specs.File.{Bytes, FourBytes, RecordFits, num, taskSize, tasksPlace, taskAt, recordNumbers, recordAt, recordPlace, refused, whole, read}
-use Rattle.model.specs.Rules.{Rule, rule1, rule2, rule3, rule4, rule5, rule6, rule7, rule8, Place, BrokenAt, Fails, OfOne, jobsRecorded}
+use Rattle.model.specs.Rules.{Rule, rule1, rule2, rule3, rule4, rule5, rule6, rule7, rule8, rule9, Place, BrokenAt, Fails, OfOne, jobsRecorded}
 use Rattle.model.specs.Answers.{Five, five, number, refusal, Outcome, Listed, Verdict, Answered}
 use Rattle.model.specs.Refusals.{taskCount, tasksTold, Names}
 use Rattle.model.specs.Calls.{answerSize, numbers, written, front, fiveIn, CheckCall, checkCall, OutputCall, outputCall}
@@ -99,6 +99,7 @@ module _ (b : List ℕ) (B : Bytes b) where
     place-fits rule7 p h = (record-number (p .x) (h .0 .0), record-number (p .y) (h .0 .1), omega (arith, h .1))
     place-fits rule8 p h =
         (record-number (p .x) (h .0), omega (arith, h .1 .1, record-fits ρ reads (p .x) (h .0) 3), omega (arith, h .2, L .setting .cores))
+    place-fits rule9 p h = (record-number (p .x) (h .0 .0), omega (arith, h .1), omega (arith, h .2))
 
     -- a number of late records, and one of them
     late-fits : (a n k : ℕ) → a ≤ 2 → n ≤ length (ρ .records) → IsRecord ρ k → FiveFit (five a n k 0 0)

@@ -139,6 +139,12 @@ each-stands i (n ∷ ns) q x = go (each-stands (suc i) ns q) (x .m) (x .range) (
         let (k, h, w) = ih (record { m = m; range = le-of-suc-le-suc r; number = omega arith; before = l }) in
         (length front + k, omega (arith, length-append front rest), getD-append-add front rest k none ∙ w)
 
+-- Where a job stands that is not its task's first, the one before it stands too.
+before-from : (i : ℕ) (ns : List ℕ) (m j : ℕ) → Stands (jobsFrom i ns) (m, suc j) → Stands (jobsFrom i ns) (m, j)
+before-from i ns m j (k, h, w) =
+    let x : Among i ns (m, suc j) = rw w at (each-among i ns k h) in
+    each-stands i ns (m, j) (record { m = x .m; range = x .range; number = x .number; before = omega (arith, x .before) })
+
 -- By task, then job.
 abbrev pub Lower : Job → Job → Type 0
 Lower p q = (p .0 < q .0) ⊎ ((p .0 ≡ q .0) × (p .1 < q .1))
@@ -177,6 +183,9 @@ length-jobs τs H = length-from 0 (counts τs H)
 pub rising : (τs : List Task) (H k l : ℕ) → k < l → l < length (jobs τs H)
     → Lower (getD (jobs τs H) k (0, 0)) (getD (jobs τs H) l (0, 0))
 rising τs H = rising-from 0 (counts τs H)
+
+pub before-stands : (τs : List Task) (H i j : ℕ) → Stands (jobs τs H) (i, suc j) → Stands (jobs τs H) (i, j)
+before-stands τs H = before-from 0 (counts τs H)
 
 -- So no job stands twice.
 pub distinct : (τs : List Task) (H k l : ℕ) → k < length (jobs τs H) → l < length (jobs τs H)

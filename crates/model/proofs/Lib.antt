@@ -24,6 +24,7 @@ pub mod FromTheFront
 pub mod LiteralBytes
 pub mod LentTasks
 pub mod CarryTables
+pub mod ReadyTables
 pub mod LentSlices
 pub mod Longest
 pub mod Once

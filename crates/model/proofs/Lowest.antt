@@ -9,7 +9,7 @@ use lib.ListN.{length, getD, List·getD-map}
 use Rattle.base.specs.First.{First, Lex}
 use Rattle.base.proofs.Searches.{Finds, total-lex, finds-none, finds-some, firstOf-finds}
 use Rattle.model.specs.Model.{Run}
-use Rattle.model.specs.Rules.{Rule, rule1, rule2, rule3, rule4, rule5, rule6, rule7, rule8, rule, inOrder, Place, Before, Holds, Obeys, BrokenAt, FirstPlace}
+use Rattle.model.specs.Rules.{Rule, rule1, rule2, rule3, rule4, rule5, rule6, rule7, rule8, rule9, rule, inOrder, Place, Before, Holds, Obeys, BrokenAt, FirstPlace}
 use Rattle.model.specs.Answers.{number}
 use Rattle.model.specs.Compute.Places.{find, lowest}
 use Rattle.model.proofs.Places.{finds, holds-nowhere, total-place}
@@ -25,6 +25,7 @@ rule-number rule5 = refl
 rule-number rule6 = refl
 rule-number rule7 = refl
 rule-number rule8 = refl
+rule-number rule9 = refl
 
 pub number-range : (ν : Rule) → (1 ≤ number ν) × (number ν < 1 + length inOrder)
 number-range rule1 = omega arith
@@ -35,6 +36,7 @@ number-range rule5 = omega arith
 number-range rule6 = omega arith
 number-range rule7 = omega arith
 number-range rule8 = omega arith
+number-range rule9 = omega arith
 
 -- In order they have the numbers from 1 on.
 abbrev upFrom : ℕ → ℕ → List ℕ

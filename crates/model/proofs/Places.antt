@@ -15,9 +15,9 @@ use Rattle.base.proofs.Test.{Says, says-not, stable}
 use Rattle.base.proofs.Searches.{Finds, Total, total-number, total-lex, finds-none, finds-some, first-finds, firstOf-finds, finds-along, finds-same}
 use Rattle.model.specs.Model.{Run, Job, IsRecord, rec, existing, ready}
 use Rattle.model.specs.Rules
-use Rattle.model.specs.Rules.{Rule, rule1, rule2, rule3, rule4, rule5, rule6, rule7, rule8, Place, OfOne, OfTwo, OfThree, Before, Holds, BrokenAt, FirstPlace, jobsRecorded, Differ, Fails, Overlap, OutOfOrder, Idles, Released, Started, Lasted, IsCore, OnOneCore, Apart, StartsBefore, InOrder, Waits, Busy}
-use Rattle.model.specs.Compute.Places.{one, two, three, sameEntry, size, differ, released, started, lasted, isCore, overlap, outOfOrder, busy, idleCore, idle, firstBad, find}
-use Rattle.model.proofs.RuleTests.{says-same-entry, says-released, says-started, says-lasted, says-core, says-apart, says-overlap, says-in-order, says-out-of-order, says-busy}
+use Rattle.model.specs.Rules.{Rule, rule1, rule2, rule3, rule4, rule5, rule6, rule7, rule8, rule9, Place, OfOne, OfTwo, OfThree, Before, Holds, BrokenAt, FirstPlace, jobsRecorded, Differ, Fails, Overlap, OutOfOrder, Idles, Released, Started, Lasted, IsCore, OnOneCore, Apart, StartsBefore, InOrder, Waits, Busy, InTurn}
+use Rattle.model.specs.Compute.Places.{one, two, three, sameEntry, size, differ, released, started, lasted, isCore, overlap, outOfOrder, busy, idleCore, idle, inTurn, firstBad, find}
+use Rattle.model.proofs.RuleTests.{says-same-entry, says-released, says-started, says-lasted, says-core, says-apart, says-overlap, says-in-order, says-out-of-order, says-busy, says-in-turn}
 
 -- What is found, as a place.
 -- --------------------------
@@ -111,6 +111,7 @@ finds rule5 ρ = fails-finds ρ (λ k. isCore ρ (rec ρ k .core)) (λ k. IsCore
 finds rule6 ρ = overlap-finds ρ
 finds rule7 ρ = order-finds ρ
 finds rule8 ρ = idle-finds ρ
+finds rule9 ρ = fails-finds ρ (inTurn ρ) (InTurn ρ) (says-in-turn ρ)
 
 -- A rule holds exactly if it is broken at no place.
 -- -------------------------------------------------
@@ -154,6 +155,7 @@ holds-nowhere rule8 ρ = (
   λ f p h. h .3 (f (p .x) (h .0) (p .y) (h .1) (p .z) (h .2)),
   λ f a h t w c i. stable (says-busy ρ c t) (λ v. f (three (a, (t, c))) (h, w, i, v)),
 )
+holds-nowhere rule9 ρ = each ρ (InTurn ρ) (λ k. stable (says-in-turn ρ k))
 
 -- Sound, complete, least, for every rule.
 -- ---------------------------------------

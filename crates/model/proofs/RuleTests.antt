@@ -9,9 +9,9 @@ use mathlib.Core.Bool.{_||_}
 use Rattle.base.proofs.Test.{Says, says-leb, says-ltb, says-eqb, says-and, says-or, says-not, says-map}
 use Rattle.base.proofs.Find.{some≢none}
 use Rattle.base.proofs.Searches.{first-finds, found-says}
-use Rattle.model.specs.Model.{Run, Job, IsRecord, rec, taskOf, arrival, rank, ready}
-use Rattle.model.specs.Rules.{Released, Started, Lasted, IsCore, OnOneCore, Apart, StartsBefore, InOrder, Busy}
-use Rattle.model.specs.Compute.Places.{sameJob, sameEntry, size, released, started, lasted, isCore, overlap, outOfOrder, holds, busy}
+use Rattle.model.specs.Model.{Run, Job, IsRecord, rec, taskOf, arrival, rank, ready, sameJob}
+use Rattle.model.specs.Rules.{Released, Started, Lasted, IsCore, OnOneCore, Apart, StartsBefore, InOrder, Busy, InTurn}
+use Rattle.model.specs.Compute.Places.{sameEntry, size, released, started, lasted, isCore, overlap, outOfOrder, holds, busy, inTurn}
 
 pub says-same-job : (p q : Job) → Says (sameJob p q) (p ≡ q)
 says-same-job p q =
@@ -55,3 +55,6 @@ module _ (ρ : Run) where
   says-busy c t =
       says-map (λ (k, w). (k, omega (arith, w .1), w .2 .0, w .2 .1, w .2 .2)) (λ (k, h, p, q, r). (k, (omega arith, omega arith, (p, q, r))))
       (found-says (first-finds (holds ρ c t) _ (says-holds c t) 0 (size ρ)))
+
+  pub says-in-turn : (k : ℕ) → Says (inTurn ρ k) (InTurn ρ k)
+  says-in-turn k = says-leb _ _

@@ -3,7 +3,7 @@ use Prim.Native.Nat.{ℕ}
 use mathlib.Core.Path.{_≡_, refl}
 use mathlib.Core.List.{List, [], _∷_, _++_, map}
 use Rattle.base.specs.Find.{first, firstOf, count}
-use Rattle.model.specs.Model.{jobCount, due, rank, ready, existing}
+use Rattle.model.specs.Model.{jobCount, due, rank, preceding, endBefore, ready, existing}
 use Rattle.model.specs.File.{bytesOf, bytes, gate, gateTask, runAt, readRecords, readTasks, read}
 use Rattle.model.specs.Answers.{Five, five, Outcome, gateOutcome, writtenOut}
 use Rattle.model.specs.Carry.{opening, atInstant, atEachInstant, carried, carryRun, carry}
@@ -18,7 +18,7 @@ pub data Call : Type 0 where
 
 -- the checker, with all that it computes by laid open: a statement that unfolds this name computes
 unfoldable pub computed : List ℕ → Five
-unfolding first firstOf count jobCount due rank ready existing gate gateTask runAt readRecords readTasks read settingInRange taskInRange badTask find lowest lateCount timely verdict check
+unfolding first firstOf count jobCount due rank preceding endBefore ready existing gate gateTask runAt readRecords readTasks read settingInRange taskInRange badTask find lowest lateCount timely verdict check
 computed b = check b
 
 -- the carry, likewise

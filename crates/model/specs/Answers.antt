@@ -10,7 +10,7 @@ use Rattle.model.specs.declared.answer.Answer.{Answer}
 use Rattle.model.specs.declared.answer.Answer.the-variants.{InTime, LateBeforeH, LateFromH, RuleBroken, Refused, Written}
 use Rattle.model.specs.Model.{Run, IsRecord, rec, due}
 use Rattle.model.specs.File.{refused, whole, read}
-use Rattle.model.specs.Rules.{Rule, rule1, rule2, rule3, rule4, rule5, rule6, rule7, rule8, Holds, Obeys, Place, FirstPlace}
+use Rattle.model.specs.Rules.{Rule, rule1, rule2, rule3, rule4, rule5, rule6, rule7, rule8, rule9, Holds, Obeys, Place, FirstPlace}
 
 -- An answer is five numbers: answer, code, and three for the place.
 -- -----------------------------------------------------------------
@@ -80,6 +80,7 @@ number rule5 = 5
 number rule6 = 6
 number rule7 = 7
 number rule8 = 8
+number rule9 = 9
 
 module _ (ρ : Run) where
   -- Late means e > deadline.

@@ -1,5 +1,6 @@
--- Document 01, "Carrying a run to H'".
-use Prim.Native.Nat.{ℕ, zero, suc, _+_, _-_, _^_}
+-- Document 01, "Carrying a run to H'", and document 02, request 3: carrying starts ready jobs only.
+use Prim.Native.Nat.{ℕ, zero, suc, _+_, _-_, _^_, _≤_}
+use mathlib.Core.Path.{_≡_}
 use mathlib.Core.Bool.{Bool, true, false, not, _&&_, _||_}
 use mathlib.Core.List.{List, [], _∷_, map}
 use mathlib.Core.Option.{Option, none, some}
@@ -7,18 +8,14 @@ use lib.Dec.{leb, ltb, eqb}
 use lib.ListN.{length, set}
 use Rattle.base.specs.Find.{first, found}
 use Rattle.model.specs.declared.record.Record.{Record}
-use Rattle.model.specs.Model.{Run, Job, mostHorizon, mostJobs, totalJobs, arrival, existing, jobOf, task, taskOf, rec, rank, ready}
+use Rattle.model.specs.Model.{Run, Job, mostHorizon, mostJobs, totalJobs, arrival, existing, jobOf, placeOf, task, taskOf, rec, rank, preceding, ready}
 use Rattle.model.specs.File.{Read, refused, whole, read, bytes, Part, emptyPart, recordPart}
 use Rattle.model.specs.Answers.{Outcome, refusedWith, gateOutcome, writtenOut}
-use Rattle.model.specs.Compute.Places.{size, sameJob, idleCore}
+use Rattle.model.specs.Compute.Places.{size, idleCore}
 use Rattle.model.specs.Compute.Verdict.{verdict}
 
 -- What stands at H.
 -- -----------------
-
--- the least record of a job
-abbrev pub placeOf : Run → Job → Option ℕ
-placeOf ρ q = first (λ k. sameJob (jobOf (rec ρ k)) q) 0 (size ρ)
 
 -- a job that has not begun: it has no core yet
 abbrev pub unbegun : Job → ℕ → Record
@@ -46,16 +43,38 @@ opening ρ H′ =
       records = map (atH ρ) (existing ρ H′);
     }
 
--- Then from instant H on, at each instant, while a core is free and a released job has not begun, the job with the earliest
--- deadline starts (ties: lower task, then lower job) on the lowest free core, and runs for its W.
--- --------------------------------------------------------------------------------------------------------------------------
+-- When a job of a run that is being carried is ready: its record says so only once its task's preceding job, if there is one, has begun.
+-- --------------------------------------------------------------------------------------------------------------------------------------
+module _ (σ : Run) where
+  abbrev pub Begun : ℕ → Type 0
+  Begun k = 1 ≤ rec σ k .core
+
+  -- its task's preceding job, if there is one, has begun
+  abbrev pub BegunBefore : ℕ → Type 0
+  BegunBefore k = (p : ℕ) → preceding σ k ≡ some p → Begun p
+
+  -- by instant t job k is ready: whatever stands in the record of a preceding job that has not begun is no end
+  pub record ReadyBy (k t : ℕ) : Type 0 where
+    pub begun-before : BegunBefore k
+    pub instant : ready σ k ≤ t
+
+-- Then from instant H on, at each instant, while a core is free and a ready job has not begun, the job with the earliest deadline starts
+-- (ties: lower task, then lower job) on the lowest free core, and runs for its W.
+-- --------------------------------------------------------------------------------------------------------------------------------------
 module _ (σ : Run) where
   abbrev pub notBegun : ℕ → Bool
   notBegun k = eqb (rec σ k .core) 0
 
-  -- a released job that has not begun
+  abbrev pub begunIf : Option ℕ → Bool
+  begunIf none = true
+  begunIf (some p) = not (notBegun p)
+
+  abbrev pub readyBy : ℕ → ℕ → Bool
+  readyBy k t = begunIf (preceding σ k) && leb (ready σ k) t
+
+  -- a ready job that has not begun
   abbrev pub canStart : ℕ → ℕ → Bool
-  canStart t k = notBegun k && leb (ready σ k) t
+  canStart t k = notBegun k && readyBy k t
 
   -- earlier deadline; ties: lower task, then lower job
   abbrev pub goesBefore : ℕ → ℕ → Bool
@@ -101,7 +120,7 @@ both none c = none
 both (some k) none = none
 both (some k) (some c) = some (k, c)
 
--- At instant t, while a core is free and a released job has not begun: at most m jobs start.
+-- At instant t, while a core is free and a ready job has not begun: at most m jobs start.
 unfoldable pub atInstant : ℕ → ℕ → Run → Run
 atInstant zero t σ = σ
 atInstant (suc m) t σ = elim (both (next σ t) (idleCore σ t)) [ none ↦ σ | some p ↦ atInstant m t (starts σ t (p .0) (p .1)) ]

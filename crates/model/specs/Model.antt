@@ -1,7 +1,11 @@
--- Document 01, "The model in numbers". Times are whole ticks.
-use Prim.Native.Nat.{ℕ, zero, suc, _+_, _*_, _-_, _/_, _≤_, _<_}
+-- Document 01, "The model in numbers", and document 02, request 3: when a job is ready. Times are whole ticks.
+use Prim.Native.Nat.{ℕ, zero, suc, _+_, _*_, _-_, _/_, _≤_, _<_, max}
+use mathlib.Core.Bool.{Bool, _&&_}
 use mathlib.Core.List.{List, [], _∷_, _++_}
+use mathlib.Core.Option.{Option, none, some}
+use lib.Dec.{eqb}
 use lib.ListN.{length, getD}
+use Rattle.base.specs.Find.{first}
 use Rattle.model.specs.declared.setting.Setting.{Setting}
 use Rattle.model.specs.declared.task.Task.{Task}
 use Rattle.model.specs.declared.record.Record.{Record}
@@ -114,6 +118,9 @@ task τs i = getD τs i noTask
 abbrev pub jobOf : Record → Job
 jobOf x = (x .task, x .job)
 
+abbrev pub sameJob : Job → Job → Bool
+sameJob p q = eqb (p .0) (q .0) && eqb (p .1) (q .1)
+
 module _ (ρ : Run) where
   abbrev pub IsRecord : ℕ → Type 0
   IsRecord k = k < length (ρ .records)
@@ -133,9 +140,31 @@ module _ (ρ : Run) where
   unfoldable pub rank : ℕ → ℕ
   rank k = due k
 
-  -- from when on the job of record k may start: a job released at t is ready at t
+  -- the least record of a job, if it has one
+  abbrev pub placeOf : Job → Option ℕ
+  placeOf q = first (λ k. sameJob (jobOf (rec k)) q) 0 (length (ρ .records))
+
+  -- the record of the job before job j of task i, if there is one: job 0 has none before it
+  abbrev pub jobBefore : ℕ → ℕ → Option ℕ
+  jobBefore i zero = none
+  jobBefore i (suc j) = placeOf (i, j)
+
+  -- its task's preceding job: the least record of that task and the job before
+  unfoldable pub preceding : ℕ → Option ℕ
+  preceding k = jobBefore (rec k .task) (rec k .job)
+
+  -- the end of a record, if there is one
+  abbrev pub endIf : Option ℕ → ℕ
+  endIf none = 0
+  endIf (some p) = rec p .end
+
+  -- the end of its task's preceding job, if there is one
+  unfoldable pub endBefore : ℕ → ℕ
+  endBefore k = endIf (preceding k)
+
+  -- A job is ready at the later of its release and the end of its task's preceding job, if there is one.
   unfoldable pub ready : ℕ → ℕ
-  ready k = rec k .release
+  ready k = max (rec k .release) (endBefore k)
 
   -- the jobs of the run that exist at a horizon
   unfoldable pub existing : ℕ → List Job

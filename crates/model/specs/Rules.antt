@@ -1,11 +1,12 @@
--- Document 01, "The eight rules": what each says of a run, and at which places a run breaks it.
+-- Document 01, "The eight rules", and document 02, request 3, rule 9 and "ready" for "released" in 7 and 8: what each says of a run, and
+-- at which places a run breaks it.
 use Prim.Native.Nat.{ℕ, zero, suc, _+_, _-_, _≤_, _<_}
 use mathlib.Core.Path.{_≡_}
 use mathlib.Core.Logic.{_⊎_}
 use mathlib.Core.List.{List, [], _∷_, map}
 use lib.ListN.{length, getD, getElem?}
 use Rattle.base.specs.First.{First}
-use Rattle.model.specs.Model.{Run, Job, IsRecord, rec, taskOf, jobOf, arrival, existing, rank, ready}
+use Rattle.model.specs.Model.{Run, Job, IsRecord, rec, taskOf, jobOf, arrival, existing, rank, endBefore, ready}
 
 module _ (ρ : Run) where
   -- 1. Jobs. The records are exactly the existing jobs, in order.
@@ -58,7 +59,7 @@ module _ (ρ : Run) where
   abbrev pub NoOverlap : Type 0
   NoOverlap = (a b : ℕ) → a < b → IsRecord ρ b → OnOneCore a b → Apart a b
 
-  -- 7. Order. If a starts strictly before b, then deadline of a ≤ deadline of b, or a starts strictly before b is released.
+  -- 7. Order. If a starts strictly before b, then deadline of a ≤ deadline of b, or a starts strictly before b is ready.
   abbrev pub StartsBefore : ℕ → ℕ → Type 0
   StartsBefore a b = rec ρ a .start < rec ρ b .start
 
@@ -68,7 +69,8 @@ module _ (ρ : Run) where
   abbrev pub Order : Type 0
   Order = (a b : ℕ) → IsRecord ρ a → IsRecord ρ b → StartsBefore a b → InOrder a b
 
-  -- 8. No idling. For every record a and every instant t with r ≤ t < s, on each core some record has start ≤ t < end.
+  -- 8. No idling. For every record a and every instant t from ready to the start, t < s, on each core some record has
+  -- start ≤ t < end.
   abbrev pub Waits : ℕ → ℕ → Type 0
   Waits a t = (ready ρ a ≤ t) × (t < rec ρ a .start)
 
@@ -78,13 +80,20 @@ module _ (ρ : Run) where
   abbrev pub NoIdling : Type 0
   NoIdling = (a : ℕ) → IsRecord ρ a → (t : ℕ) → Waits a t → (c : ℕ) → IsCore c → Busy c t
 
+  -- 9. In turn. Each job starts no earlier than the end of the one before.
+  abbrev pub InTurn : ℕ → Type 0
+  InTurn k = endBefore ρ k ≤ rec ρ k .start
+
+  abbrev pub Turn : Type 0
+  Turn = (k : ℕ) → IsRecord ρ k → InTurn k
+
 -- The rules by their numbers, in the order in which they are judged.
 -- ------------------------------------------------------------------
 pub data Rule : Type 0 where
-  rule1 rule2 rule3 rule4 rule5 rule6 rule7 rule8 : Rule
+  rule1 rule2 rule3 rule4 rule5 rule6 rule7 rule8 rule9 : Rule
 
 abbrev pub inOrder : List Rule
-inOrder = rule1 ∷ rule2 ∷ rule3 ∷ rule4 ∷ rule5 ∷ rule6 ∷ rule7 ∷ rule8 ∷ []
+inOrder = rule1 ∷ rule2 ∷ rule3 ∷ rule4 ∷ rule5 ∷ rule6 ∷ rule7 ∷ rule8 ∷ rule9 ∷ []
 
 -- rule ν of the paper, ν from 1
 abbrev pub rule : ℕ → Rule
@@ -99,6 +108,7 @@ Holds rule5 ρ = Core ρ
 Holds rule6 ρ = NoOverlap ρ
 Holds rule7 ρ = Order ρ
 Holds rule8 ρ = NoIdling ρ
+Holds rule9 ρ = Turn ρ
 
 -- A run that obeys them all.
 abbrev pub Obeys : Run → Type 0
@@ -129,7 +139,7 @@ module _ (ρ : Run) where
   abbrev pub Differ : ℕ → Type 0
   Differ k = ¬ (getElem? (jobsRecorded ρ) k ≡ getElem? (existing ρ (ρ .setting .horizon)) k)
 
-  -- 2 to 5. Place: a record that does not do as the rule says.
+  -- 2 to 5, and 9. Place: a record that does not do as the rule says.
   abbrev pub Fails : (ℕ → Type 0) → ℕ → Type 0
   Fails Good k = IsRecord ρ k × ¬ Good k
 
@@ -154,6 +164,7 @@ BrokenAt rule5 ρ = OfOne (Fails ρ (λ k. IsCore ρ (rec ρ k .core)))
 BrokenAt rule6 ρ = OfTwo (Overlap ρ)
 BrokenAt rule7 ρ = OfTwo (OutOfOrder ρ)
 BrokenAt rule8 ρ = OfThree (Idles ρ)
+BrokenAt rule9 ρ = OfOne (Fails ρ (InTurn ρ))
 
 -- The first place of a broken rule: least k; the least pair, a first and then b; least a, then least t, then the least core.
 abbrev pub FirstPlace : Rule → Run → Place → Type 0

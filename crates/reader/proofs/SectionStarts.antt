@@ -5,10 +5,8 @@ use mathlib.Core.List.{List}
 use native.Mathlib.Omega.{arith}
 use Rattle.base.specs.Find.{first}
 use Rattle.base.proofs.Same.{first-same}
-use Rattle.model.specs.Model.{Run, Job, jobOf, rec}
-use Rattle.model.specs.Compute.Places.{sameJob}
+use Rattle.model.specs.Model.{Run, Job, jobOf, rec, sameJob, placeOf}
 use Rattle.model.specs.File.{Read, refused, whole, read, recordAt, recordSize}
-use Rattle.model.specs.Carry.{placeOf}
 use Rattle.openfile.specs.declared.head.Head.{Head}
 use Rattle.openfile.specs.Head.{headOf, Tells}
 use Rattle.openfile.proofs.WholeOrRefused.{tells-record, tells-count}

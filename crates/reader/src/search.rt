@@ -5,9 +5,8 @@ use runfile::record_at;
 ghost use mathlib.Core.Path.{_≡_};
 ghost use Prim.Native.Nat.{_+_, _*_};
 ghost use Rattle.base.specs.Find.{seen, first};
-ghost use Rattle.model.specs.Model.{jobOf};
+ghost use Rattle.model.specs.Model.{jobOf, sameJob};
 ghost use Rattle.model.specs.File.{recordAt, recordSize};
-ghost use Rattle.model.specs.Compute.Places.{sameJob};
 
 // Whether a record is of a job.
 pub fn is_of(x: Record, task: u32, job: u32) -> bool

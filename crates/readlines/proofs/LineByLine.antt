@@ -10,10 +10,9 @@ use borrow.Author.Tests.{not-true, not-false}
 use lib.ListN.{length, getD, set, take, drop, length-drop, length-set, drop-of-length-le}
 use Rattle.base.specs.Find.{first, found}
 use Rattle.model.specs.declared.record.Record.{Record}
-use Rattle.model.specs.Model.{jobOf, mostRecords}
+use Rattle.model.specs.Model.{jobOf, mostRecords, sameJob}
 use Rattle.model.specs.File.{recordNumbers, joined}
 use Rattle.model.specs.Calls.{front}
-use Rattle.model.specs.Compute.Places.{sameJob}
 use Rattle.exchange.specs.RecordLine.{header, LineFirst}
 use Rattle.exchange.specs.LineIn.{after}
 use Rattle.exchange.specs.TextTable.{TableRead, given, linesFrom, tableRead}

@@ -12,8 +12,7 @@ use Rattle.base.specs.Find.{first, found}
 use Rattle.base.proofs.Find.{here-or-on}
 use Rattle.base.proofs.Test.{says-false}
 use Rattle.model.specs.declared.record.Record.{Record}
-use Rattle.model.specs.Model.{Job, jobOf, noRecord}
-use Rattle.model.specs.Compute.Places.{sameJob}
+use Rattle.model.specs.Model.{Job, jobOf, noRecord, sameJob}
 use Rattle.exchange.specs.TextTable.{Given}
 use Rattle.exchange.proofs.TakenOrRefused.{says-given}
 use Rattle.readlines.specs.Scan.{jobIn, slots, slotOf}

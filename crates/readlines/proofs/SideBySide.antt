@@ -11,11 +11,10 @@ use lib.Seq.{sets-eq, take-append-seam, drop-append-add, drop-drop}
 use Rattle.base.specs.Find.{first, found}
 use Rattle.base.proofs.Same.{first-same}
 use Rattle.model.specs.declared.record.Record.{Record}
-use Rattle.model.specs.Model.{Job, jobOf, noRecord}
+use Rattle.model.specs.Model.{Job, jobOf, noRecord, sameJob}
 use Rattle.model.specs.File.{recordNumbers, joined}
 use Rattle.model.specs.Calls.{front}
 use Rattle.model.proofs.Joined.{joined-on, length-joined, joined-at}
-use Rattle.model.specs.Compute.Places.{sameJob}
 use Rattle.exchange.specs.TextTable.{given}
 use Rattle.readlines.specs.Scan.{width, jobIn}
 

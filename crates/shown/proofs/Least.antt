@@ -11,8 +11,7 @@ use Rattle.base.specs.Find.{first, seen}
 use Rattle.base.proofs.Find.{Answer, answer, some≢none}
 use Rattle.model.specs.declared.record.Record.{Record}
 use Rattle.model.specs.declared.setting.Setting.{Setting}
-use Rattle.model.specs.Model.{Job, jobOf, rec}
-use Rattle.model.specs.Compute.Places.{sameJob}
+use Rattle.model.specs.Model.{Job, jobOf, rec, sameJob}
 use Rattle.model.specs.File.{read, recordAt, recordSize, settingAt}
 use Rattle.model.specs.Carry.{leastOf, beganBefore}
 use Rattle.openfile.proofs.WholeOrRefused.{tells-record, said-setting}

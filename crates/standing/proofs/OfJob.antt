@@ -10,28 +10,19 @@ use lib.ListN.{length}
 use Rattle.base.proofs.Find.{some≢none}
 use Rattle.base.proofs.Searches.{Finds}
 use Rattle.base.proofs.Test.{says-ltb, says-true, says-false}
-use Rattle.carrytheory.proofs.AtH.{RecordOf, place-finds}
+use Rattle.carrytheory.proofs.Preceding.{RecordOf, place-finds, least-is}
 use Rattle.carrytheory.proofs.Recorded.{one-record, record-exists}
 use Rattle.model.specs.declared.record.Record.{Record}
 use Rattle.model.specs.declared.task.Task.{Task}
-use Rattle.model.specs.Carry.{placeOf, unbegun, keptIf, atHOf, atH}
-use Rattle.model.specs.Compute.Places.{sameJob}
+use Rattle.model.specs.Carry.{unbegun, keptIf, atHOf, atH}
 use Rattle.model.specs.File.{recordAt, recordSize}
-use Rattle.model.specs.Model.{Run, Job, IsRecord, arrival, jobCount, jobOf, rec, task}
+use Rattle.model.specs.Model.{Run, Job, IsRecord, arrival, jobCount, jobOf, rec, task, sameJob, placeOf}
 use Rattle.model.specs.Rules.{Jobs}
 use Rattle.model.proofs.Jobs.{Good, job-exists}
 use Rattle.model.proofs.RuleTests.{says-same-job}
 use Rattle.openfile.specs.declared.head.Head.{Head}
 use Rattle.openfile.specs.Head.{Tells}
 use Rattle.openfile.proofs.WholeOrRefused.{tells-count, tells-limits, tells-record, tells-setting}
-
--- a record of a job is the least where each job has one
-only-record : (ρ : Run) → Jobs ρ → (p : ℕ) (q : Job) → IsRecord ρ p → jobOf (rec ρ p) ≡ q → some p ≡ placeOf ρ q
-only-record ρ J p q h e = go (place-finds ρ q)
-  where
-    go : Finds _<_ (RecordOf ρ q) (placeOf ρ q) → some p ≡ placeOf ρ q
-    go (Finds.none-passes w f) = absurd (f p (h, e))
-    go (Finds.passes k w F) = ap some (one-record ρ J p k h (F .here .0) (e ∙ sym (F .here .1))) ∙ sym w
 
 -- what is found is a record
 pub found-record : (ρ : Run) (q : Job) (k : ℕ) → some k ≡ placeOf ρ q → IsRecord ρ k
@@ -46,7 +37,7 @@ module _ {b : List ℕ} {h : Head} {ρ : Run} (T : Tells b h ρ) where
       → r ≡ sameJob (jobOf x) q → r ≡ true → some p ≡ placeOf ρ q
   near-is J p q {x} l e s t =
       let same : jobOf x ≡ q = says-same-job (jobOf x) q .sound (sym s ∙ t) in
-      only-record ρ J p q (omega (arith, tells-count T)) (ap jobOf (tells-record T p l ∙ sym e) ∙ same)
+      sym (least-is ρ J p q (omega (arith, tells-count T), ap jobOf (tells-record T p l ∙ sym e) ∙ same))
 
   -- a job that does not exist at H has no record
   pub not-yet : Jobs ρ → (i j : ℕ) {τ : Task} → task (ρ .tasks) i ≡ τ → jobCount τ (h .setting .horizon) ≤ j → none ≡ placeOf ρ (i, j)

@@ -8,9 +8,9 @@ use lib.ListN.{length, getD}
 use Rattle.carrytheory.proofs.AtH.{at-opening, job-exists}
 use Rattle.model.specs.declared.record.Record.{Record}
 use Rattle.model.specs.declared.task.Task.{Task}
-use Rattle.model.specs.Carry.{placeOf, atH, opening}
+use Rattle.model.specs.Carry.{atH, opening}
 use Rattle.model.specs.File.{FourBytes}
-use Rattle.model.specs.Model.{Run, Job, IsRecord, Exists, mostTasks, mostRecords, arrival, jobOf, rec, task}
+use Rattle.model.specs.Model.{Run, Job, IsRecord, Exists, mostTasks, mostRecords, arrival, jobOf, rec, task, placeOf}
 use Rattle.model.specs.Rules.{Jobs}
 use Rattle.openfile.specs.declared.head.Head.{Head}
 use Rattle.openfile.specs.Head.{Tells}

@@ -6,17 +6,16 @@ use mathlib.Core.List.{List}
 use mathlib.Core.Option.{some}
 use native.Mathlib.Omega.{arith}
 use native.Mathlib.Decide.{ℕ-discrete}
-use lib.ListN.{length, getD, set, take, drop, length-set}
+use lib.ListN.{length, getD, set, length-set}
 use Rattle.base.proofs.Searches.{total-number, finds-some}
 use Rattle.model.specs.Model.{Run, mostCores, IsRecord, rec, taskOf}
 use Rattle.model.specs.Rules.{Busy}
-use Rattle.model.specs.Carry.{starts}
+use Rattle.model.specs.Carry.{Begun, starts}
 use Rattle.model.specs.Compute.Places.{idleCore}
 use Rattle.model.proofs.Places.{idle-core-finds}
 use Rattle.carrytheory.proofs.StartChanges.{is-record, still-record, here, elsewhere}
-use Rattle.carrytheory.proofs.Step.{Begun}
 use Rattle.carrytheory.proofs.NextInstant.{LastEnd, LeastFree}
-use Rattle.table.specs.Table.{Lent, columns}
+use Rattle.table.specs.Table.{Lent, columns, columnOf}
 use Rattle.starts.specs.Cores.{EndsAt, LastOf, Lasts, LeastOf, Takes}
 use Rattle.starts.specs.declared.cores.Taken.{Taken}
 use Rattle.starts.proofs.Taking.{at-set}
@@ -28,7 +27,7 @@ pub record Ends (σ : Run) (xs : List ℕ) : Type 0 where
   pub each : (d : ℕ) → 1 ≤ d → d ≤ mostCores → LastEnd σ d (getD xs d 0)
 
 -- what the columns of the ends and the cores tell
-pub ends-of : {σ : Run} {t xs es cs : List ℕ} {n : ℕ} → Lent columns σ t n → es ≡ take n (drop (4 * n) t) → cs ≡ take n (drop (5 * n) t) → length cs ≡ n
+pub ends-of : {σ : Run} {t xs es cs : List ℕ} {n : ℕ} → Lent columns σ t n → es ≡ columnOf n t 4 → cs ≡ columnOf n t 5 → length cs ≡ n
     → Lasts (length cs) cs es xs → Ends σ xs
 ends-of {σ} {t} {xs} {es} {cs} {n} T p q l L = record { count = L .count; each = λ d h b. last d (getD xs d 0) (L .each d h b) }
   where

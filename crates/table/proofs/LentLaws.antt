@@ -12,7 +12,7 @@ use lib.Seq.{length-take-le, getD-take, getD-drop, ext-getD}
 use Rattle.base.specs.Fill.{Fills}
 use Rattle.base.proofs.Find.{here-or-on}
 use Rattle.model.specs.Model.{Run, WithinLimits}
-use Rattle.table.specs.Table.{columns, row, numberAt, Sized, Lent, Loads, Rows, PutRow, ForEach}
+use Rattle.table.specs.Table.{columns, row, numberAt, Sized, columnOf, Lent, Loads, Rows, PutRow, ForEach}
 use Rattle.table.proofs.ColumnsApart.{column-within, same-column, same-row, at}
 
 -- a table as long as another
@@ -27,7 +27,7 @@ module _ {m : ℕ} {ρ : Run} {t : List ℕ} {n : ℕ} (L : Lent m ρ t n) where
   number-of j k p h l e = ap (λ i. getD t i 0) e ∙ L .number j k h l
 
   -- a column, as a part of the table
-  pub column-of : (j : ℕ) → j < m → j < columns → ForEach ρ (take n (drop (j * n) t)) (numberAt ρ j)
+  pub column-of : (j : ℕ) → j < m → j < columns → ForEach ρ (columnOf n t j) (numberAt ρ j)
   column-of j h l =
       record {
         long = length-take-le n (drop (j * n) t) (simp length-drop (omega (arith, column-within columns j n l, L .sized .long))) ∙ L .count;

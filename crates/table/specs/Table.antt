@@ -4,7 +4,7 @@ use Prim.Native.Nat.{ℕ, _+_, _*_, _≤_, _<_}
 use mathlib.Core.Path.{_≡_}
 use mathlib.Core.List.{List, [], _∷_}
 use denote.Ref.{RefT}
-use lib.ListN.{length, getD}
+use lib.ListN.{length, getD, take, drop}
 use Rattle.model.specs.Model.{Run, IsRecord, WithinLimits, mostRecords, rec, taskOf, arrival, due, rank, ready}
 
 module _ (ρ : Run) (k : ℕ) where
@@ -48,6 +48,10 @@ numberAt ρ j k = getD (row ρ k) j 0
 pub record Sized (t : List ℕ) (n : ℕ) : Type 0 where
   pub long : length t ≡ columns * n
   pub few : n ≤ mostRecords
+
+-- column j of a table for n records
+abbrev pub columnOf : ℕ → List ℕ → ℕ → List ℕ
+columnOf n t j = take n (drop (j * n) t)
 
 -- The first m columns of a table for n records are those of a run, which is within its limits.
 pub record Lent (m : ℕ) (ρ : Run) (t : List ℕ) (n : ℕ) : Type 0 where

@@ -2,8 +2,8 @@
 use model::Record;
 ghost use mathlib.Core.Path.{_≡_};
 ghost use Prim.Native.Nat.{_+_, _*_, _≤_, _<_};
-ghost use lib.ListN.{length, take, drop};
-ghost use Rattle.table.specs.Table.{columns, Sized, PutRow, LiesAt};
+ghost use lib.ListN.{length, take};
+ghost use Rattle.table.specs.Table.{columns, Sized, columnOf, PutRow, LiesAt};
 
 // How many columns there are, and how many of them stand in a file.
 pub const COLUMNS: usize = 13;
@@ -45,7 +45,7 @@ pub const READY: usize = 12;
 // Column j of a table for n records, as the part of the table that it is.
 pub fn column<'a>(t: &'a [u32], n: usize, j: usize) -> &'a [u32]
     requires { ⌜ Sized (now t) n × (j < columns) ⌝ }
-    ensures { λ r. ⌜ (now r ≡ take n (drop (j * n) (now (t .entry)))) × (length (now r) ≡ n) × LiesAt r (t .entry) (j * n) ⌝ }
+    ensures { λ r. ⌜ (now r ≡ columnOf n (now (t .entry)) j) × (length (now r) ≡ n) × LiesAt r (t .entry) (j * n) ⌝ }
 {
     let from = j * n;
     &t[from..from + n]

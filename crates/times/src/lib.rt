@@ -1,17 +1,19 @@
 // The times of each record, from the tasks of the file: they stand in a list that is lent, and the rules then run over columns alone.
+use base::later;
 use model::TASKS;
 use model::Task;
 use table::DUE;
 use table::EARLIEST;
+use table::END;
 use table::JOB;
 use table::LEAST;
 use table::RELEASE;
 use table::put_row;
 ghost use mathlib.Core.Path.{_≡_};
 ghost use Prim.Native.Nat.{_+_, _*_, _<_};
-ghost use Rattle.model.specs.Model.{Run, taskOf};
+ghost use Rattle.model.specs.Model.{Run, taskOf, ready};
 ghost use Rattle.model.specs.Rules.{Jobs};
-ghost use Rattle.table.specs.Table.{Rows, Loads};
+ghost use Rattle.table.specs.Table.{Sized, Lent, Rows, Loads, recorded};
 ghost use Rattle.times.specs.Times.{begins, upTo, KeptFrom, Listed};
 
 // What is filled in at once: until when a record may be released, how long it may last, what its order goes by.
@@ -21,6 +23,18 @@ pub enum Stage {
     Order,
 }
 
+// When the job of record k is ready, where rule 1 holds: the job before it is that of the record before.
+fn ready_at(t: &[u32], n: usize, k: usize) -> u32
+    requires { ⌜ Sized (now t) n × (k < n) ⌝ }
+    ensures { λ r. ⌜ ((σ : Run) → Jobs σ → Lent recorded σ (now (t .entry)) n → r ≡ ready σ k) ⌝ }
+{
+    let release = t[RELEASE * n + k];
+    if t[JOB * n + k] == 0 {
+        return release;
+    }
+    later(release, t[END * n + k - 1])
+}
+
 // The times of record k, whose task this is, that a stage fills in.
 fn put_times(stage: Stage, task: Task, t: &mut [u32], n: usize, k: usize)
     requires { ⌜ (k < n) × ((σ : Run) × Jobs σ × Rows (begins stage) (upTo stage) k σ (now t) n × (taskOf σ k ≡ task)) ⌝ }
@@ -28,7 +42,6 @@ fn put_times(stage: Stage, task: Task, t: &mut [u32], n: usize, k: usize)
         → Rows (begins stage) (upTo stage) (k + 1) σ (now (t .exit)) n × KeptFrom (upTo stage * n) (now (t .entry)) (now (t .exit))) ⌝ }
 {
     let job = t[JOB * n + k];
-    let release = t[RELEASE * n + k];
     match stage {
         Stage::Release => {
             let earliest = task.arrival(job) as u32;
@@ -45,7 +58,8 @@ fn put_times(stage: Stage, task: Task, t: &mut [u32], n: usize, k: usize)
         ),
         Stage::Order => {
             let due = task.deadline(job) as u32;
-            put_row(t, n, k, DUE, [due, due, release, 0, 0, 0, 0], 3);
+            let ready = ready_at(t, n, k);
+            put_row(t, n, k, DUE, [due, due, ready, 0, 0, 0, 0], 3);
         }
     }
 }

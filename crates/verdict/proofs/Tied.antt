@@ -1,29 +1,30 @@
 -- What is found over columns that hold the numbers of a run's records is what the rules find of the run. Assumes nothing.
-use Prim.Native.Nat.{ℕ, suc, _*_, _-_, _<_}
+use Prim.Native.Nat.{ℕ, suc, _-_, _<_}
 use mathlib.Core.Path.{_≡_, _∙_, ap}
 use mathlib.Core.Bool.{Bool, not, _&&_, _||_}
 use mathlib.Core.List.{List}
 use mathlib.Core.Option.{Option·map}
 use native.Mathlib.Omega.{arith}
 use lib.Dec.{leb, ltb, eqb}
-use lib.ListN.{length, take, drop}
+use lib.ListN.{length}
 use Rattle.base.specs.Find.{first, firstOf, count, found}
 use Rattle.base.proofs.Same.{first-same, count-same, firstOf-same}
 use Rattle.model.specs.Model.{Run, IsRecord, rec, taskOf, due, rank, ready}
-use Rattle.model.specs.Rules.{rule2, rule3, rule4, rule5, rule6, rule7, rule8}
+use Rattle.model.specs.Rules.{rule2, rule3, rule4, rule5, rule6, rule7, rule8, rule9, Start}
 use Rattle.model.specs.Compute.Places.{size, one, two, three, overlap, busy, firstBad, find}
 use Rattle.model.specs.Compute.Verdict.{late, lateEarly, lateCount, timelyOf, timely}
+use Rattle.carrytheory.proofs.Readiness.{turn-by-ready}
 use Rattle.rules.specs.declared.Asks.the-variants.{Released, Started, Lasted, OnCore}
 use Rattle.rules.specs.Asked.{obeyedBy, obeyedIn}
 use Rattle.pairs.specs.Pairs.{overlapIn, outOfOrderIn}
 use Rattle.idle.specs.Idle.{holdsIn, busyIn, idleCoreIn, idleIn}
-use Rattle.table.specs.Table.{Lent, ForEach, columns, numberAt, earliest, latest}
+use Rattle.table.specs.Table.{Lent, ForEach, columns, columnOf, numberAt, earliest, latest}
 use Rattle.table.proofs.LentLaws.{column-of}
 use Rattle.verdict.specs.Late.{lateIn, earlyIn, timelyIn}
 
 -- a column of a lent table has one number for each record
 pub column-is : {m : ℕ} {ρ : Run} {t : List ℕ} {n : ℕ} → Lent m ρ t n → (j : ℕ) → j < m → j < columns → {xs : List ℕ}
-    → xs ≡ take n (drop (j * n) t) → ForEach ρ xs (numberAt ρ j)
+    → xs ≡ columnOf n t j → ForEach ρ xs (numberAt ρ j)
 column-is L j h l e = rw e (column-of L j h l)
 
 module _ {ρ : Run} where
@@ -100,6 +101,12 @@ module _ {ρ : Run} where
       let u : IsRecord ρ a = omega arith in
       let v : IsRecord ρ b = omega arith in
       λ κ. ltb (S .each a u κ) (S .each b v κ) && not (leb (D .each a u κ) (D .each b v κ) || ltb (S .each a u κ) (R .each b v κ)))))
+
+  -- rule 9, where rule 3 holds
+  pub turn-tied : {rs ss : List ℕ} → Start ρ → ForEach ρ rs (ready ρ) → ForEach ρ ss (λ k. rec ρ k .start)
+      → Option·map one (first (λ k. not (obeyedIn Started rs ss ss ss k)) 0 (length rs)) ≡ find rule9 ρ
+  unfolding find obeyedBy
+  turn-tied s R S = bad-tied R _ _ (λ k h. (λ κ. leb (R .each k h κ) (S .each k h κ)) ∙ turn-by-ready ρ k (s k h))
 
   -- lateness
   module _ {H : ℕ} {ds ss es : List ℕ} (e : H ≡ ρ .setting .horizon) (D : ForEach ρ ds (due ρ)) (S : ForEach ρ ss (λ k. rec ρ k .start))

@@ -1,4 +1,4 @@
-// The rules 2 to 8 of a run that is lent as a table: each asks for its columns.
+// The rules 2 to 9 of a run that is lent as a table: each asks for its columns.
 use base::Found;
 use base::FoundThree;
 use base::FoundTwo;
@@ -24,7 +24,7 @@ ghost use mathlib.Core.Option.{Option·map};
 ghost use Rattle.base.specs.Find.{seen, seenTwo, seenThree};
 ghost use Rattle.model.specs.Compute.Places.{find, one, two, three};
 ghost use Rattle.model.specs.Model.{Run};
-ghost use Rattle.model.specs.Rules.{rule2, rule3, rule4, rule5, rule6, rule7, rule8};
+ghost use Rattle.model.specs.Rules.{Start, rule2, rule3, rule4, rule5, rule6, rule7, rule8, rule9};
 ghost use Rattle.table.specs.Table.{Lent, columns};
 ghost use Rattle.times.specs.Times.{upTo};
 
@@ -103,4 +103,13 @@ pub(crate) fn idling(t: &[u32], n: usize, cores: u32) -> FoundThree
         column(t, n, END),
         column(t, n, CORE),
     )
+}
+
+// Rule 9. In turn. Where rule 3 holds, a job starts before the end of the one before exactly if it starts before it is ready.
+pub(crate) fn out_of_turn(t: &[u32], n: usize) -> Found
+    requires { ⌜ ((ρ : Run) × Lent columns ρ (now t) n) ⌝ }
+    ensures { λ r. ⌜ ((ρ : Run) → Lent columns ρ (now (t .entry)) n → Start ρ → Option·map one (seen r) ≡ find rule9 ρ) ⌝ }
+{
+    let start = column(t, n, START);
+    record_place(Asks::Started, column(t, n, READY), start, start, start)
 }

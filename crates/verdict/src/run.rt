@@ -3,6 +3,7 @@ use crate::asked::idling;
 use crate::asked::lasted;
 use crate::asked::on_core;
 use crate::asked::out_of_order;
+use crate::asked::out_of_turn;
 use crate::asked::overlapping;
 use crate::asked::released;
 use crate::asked::started;
@@ -30,21 +31,25 @@ ghost use mathlib.Core.Path.{_≡_};
 ghost use Rattle.model.specs.Answers.{fiveOf};
 ghost use Rattle.model.specs.Compute.Verdict.{verdict};
 ghost use Rattle.model.specs.Model.{Run};
+ghost use Rattle.model.specs.Rules.{Start};
 ghost use Rattle.openfile.specs.Head.{Tells, Leads};
 ghost use Rattle.table.specs.Table.{Sized, Lent, columns};
 ghost use Rattle.times.specs.Times.{upTo, Listed};
 ghost use Rattle.verdict.specs.RulesFrom.{verdictFrom};
 
-// From rule 7 on, and then the late records.
+// From rule 7 on where rule 3 holds, and then the late records.
 fn judge_order(setting: Setting, t: &[u32], n: usize) -> Answer
     requires { ⌜ ((ρ : Run) × Lent columns ρ (now t) n × (setting ≡ ρ .setting)) ⌝ }
-    ensures { λ r. ⌜ ((ρ : Run) → Lent columns ρ (now (t .entry)) n → setting ≡ ρ .setting → fiveOf r ≡ verdictFrom 7 ρ) ⌝ }
+    ensures { λ r. ⌜ ((ρ : Run) → Lent columns ρ (now (t .entry)) n → setting ≡ ρ .setting → Start ρ → fiveOf r ≡ verdictFrom 7 ρ) ⌝ }
 {
     if let FoundTwo::At(a, b) = out_of_order(t, n) {
         return Answer::RuleBroken(7, a, b, 0);
     }
     if let FoundThree::At(a, at, c) = idling(t, n, setting.cores) {
         return Answer::RuleBroken(8, a, at, c);
+    }
+    if let Found::At(k) = out_of_turn(t, n) {
+        return Answer::RuleBroken(9, k, 0, 0);
     }
     timely(
         setting.horizon,
@@ -54,10 +59,10 @@ fn judge_order(setting: Setting, t: &[u32], n: usize) -> Answer
     )
 }
 
-// From rule 4 on: how long a record may last is filled in first, and what its order goes by once 4 to 6 hold.
+// From rule 4 on where rule 3 holds: how long a record may last is filled in first, and what its order goes by once 4 to 6 hold.
 fn judge_lengths(setting: Setting, tasks: [Task; TASKS], t: &mut [u32], n: usize) -> Answer
     requires { ⌜ ((ρ : Run) × Listed ρ tasks (upTo Stage.Release) (now t) n × (setting ≡ ρ .setting)) ⌝ }
-    ensures { λ r. ⌜ ((ρ : Run) → Listed ρ tasks (upTo Stage.Release) (now (t .entry)) n → setting ≡ ρ .setting → fiveOf r ≡ verdictFrom 4 ρ) ⌝ }
+    ensures { λ r. ⌜ ((ρ : Run) → Listed ρ tasks (upTo Stage.Release) (now (t .entry)) n → setting ≡ ρ .setting → Start ρ → fiveOf r ≡ verdictFrom 4 ρ) ⌝ }
 {
     fill_times(Stage::Length, tasks, t, n);
     let wrong_length = lasted(t, n);

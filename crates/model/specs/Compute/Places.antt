@@ -6,8 +6,8 @@ use mathlib.Core.Option.{Option, none, some, Option·map}
 use lib.Dec.{leb, ltb, eqb}
 use lib.ListN.{length, getElem?}
 use Rattle.base.specs.Find.{first, firstOf, found}
-use Rattle.model.specs.Model.{Run, Job, rec, taskOf, arrival, existing, rank, ready}
-use Rattle.model.specs.Rules.{Rule, rule1, rule2, rule3, rule4, rule5, rule6, rule7, rule8, Place, jobsRecorded, inOrder, rule}
+use Rattle.model.specs.Model.{Run, Job, rec, taskOf, sameJob, arrival, existing, rank, endBefore, ready}
+use Rattle.model.specs.Rules.{Rule, rule1, rule2, rule3, rule4, rule5, rule6, rule7, rule8, rule9, Place, jobsRecorded, inOrder, rule}
 
 -- places of one, of two and of three numbers
 abbrev pub one : ℕ → Place
@@ -18,9 +18,6 @@ two p = record { x = p .0; y = p .1; z = 0 }
 
 abbrev pub three : ℕ × (ℕ × ℕ) → Place
 three p = record { x = p .0; y = p .1 .0; z = p .1 .1 }
-
-abbrev pub sameJob : Job → Job → Bool
-sameJob p q = eqb (p .0) (q .0) && eqb (p .1) (q .1)
 
 -- both lists have ended, or both go on with the same job
 abbrev pub sameEntry : Option Job → Option Job → Bool
@@ -74,6 +71,9 @@ module _ (ρ : Run) where
   abbrev pub idle : ℕ → Option (ℕ × ℕ)
   idle a = firstOf idleCore (ready ρ a) (rec ρ a .start - ready ρ a)
 
+  abbrev pub inTurn : ℕ → Bool
+  inTurn k = leb (endBefore ρ k) (rec ρ k .start)
+
 -- the least record that fails
 abbrev pub firstBad : Run → (ℕ → Bool) → Option Place
 firstBad ρ good = Option·map one (first (λ k. not (good k)) 0 (size ρ))
@@ -87,6 +87,7 @@ find rule5 ρ = firstBad ρ (λ k. isCore ρ (rec ρ k .core))
 find rule6 ρ = Option·map two (firstOf (λ a. first (overlap ρ a) (suc a) (size ρ - suc a)) 0 (size ρ))
 find rule7 ρ = Option·map two (firstOf (λ a. first (outOfOrder ρ a) 0 (size ρ)) 0 (size ρ))
 find rule8 ρ = Option·map three (firstOf (idle ρ) 0 (size ρ))
+find rule9 ρ = firstBad ρ (inTurn ρ)
 
 -- the lowest broken rule, by its number, and its first place
 unfoldable pub lowest : Run → Option (ℕ × Place)

@@ -1,12 +1,12 @@
 -- All jobs that wait start, turn by turn. Assumes nothing.
-use Prim.Native.Nat.{_*_, max}
+use Prim.Native.Nat.{max}
 use mathlib.Core.Path.{refl, sym, _∙_, ap}
 use mathlib.Core.Logic.{inl, inr}
 use native.Mathlib.Omega.{arith}
 use borrow.Author.Needs.{needs}
-use lib.ListN.{take, drop}
 use Rattle.base.specs.Find.{seenTwo}
 use Rattle.model.specs.Carry.{opening}
+use Rattle.table.specs.Table.{columnOf}
 use Rattle.starts.specs.Choice.{Chosen}
 use Rattle.starts.proofs.AllTurns.{Reached, Comes, on-core, reached-first, some-cores, in-table, core-free, reached-on, comes-done}
 use Rattle.starts.proofs.start_all.Statement.{statement}
@@ -23,7 +23,7 @@ found : (c : tie.After-known-told Inv-loop μ-loop)
     → let y = c .before .before .before .before .before .before .before in
     let t = y .loop .t in
     let n = y .before .before .before .before .before .before .args .n in
-    Chosen n (max (y .loop .at) (y .loop .taken .least)) (take n (drop (5 * n) t)) (take n (drop (12 * n) t)) (take n (drop (11 * n) t))
+    Chosen n (max (y .loop .at) (y .loop .taken .least)) (columnOf n t 5) (columnOf n t 1) (columnOf n t 12) (columnOf n t 11)
     (c .before .u .given .0 .0) (c .before .u .given .0 .1 .0)
 found c =
     let y = c .before .before .before in
@@ -50,6 +50,12 @@ loop-holds c =
     let core = c .before .column2 .ensures in
     let free = c .free-cores .ensures in
     record { long = refl; reached = λ ρ H′ X. reached-first X (end .0) (core .0) (core .1) (free .0) (free .1) }
+
+next-job-requires : tie.Need-next-job-requires Inv-loop μ-loop
+next-job-requires c κs =
+    let p = c .before .before .before .before .before .before .before .before .before .pre in
+    let R = c .before .before .before .loop .inv .reached (p .0) (p .1) (p .2) in
+    (R .run, R .jobs, R .table)
 
 enum-told : tie.Need-enum-told Inv-loop μ-loop
 enum-told c = search needs
@@ -78,15 +84,15 @@ add-e-2 c = omega (arith, in-table (reached (c .before)) (found (c .before)))
 take-core-requires : tie.Need-take-core-requires Inv-loop μ-loop
 take-core-requires c κs = let R = reached (c .before) in (some-cores R .0, some-cores R .1, core-free R (found (c .before)))
 
-put-row-requires : tie.Need-put-row-requires Inv-loop μ-loop
-put-row-requires c κs = let f = in-table (reached (c .before .before .before)) (found (c .before .before .before)) in (f .1, f .0, omega arith, omega arith)
+put-start-requires : tie.Need-put-start-requires Inv-loop μ-loop
+put-start-requires c κs = let f = in-table (reached (c .before .before .before)) (found (c .before .before .before)) in (f .1, f .0)
 
 loop-again : tie.Need-loop-again Inv-loop μ-loop
 loop-again c =
     let x = c .before .before .before .before .before .before in
     record {
-      long = c .before .before .put-row .ensures .long ∙ x .before .before .before .before .before .before .before .loop .inv .long;
-      reached = λ ρ H′ X. reached-on (x .before .before .before .before .before .before .before .loop .inv .reached ρ H′ X) (found x) (c .before .before .before .before .take-core .ensures) (c .before .before .put-row .ensures);
+      long = c .before .before .put-start .ensures .0 ∙ x .before .before .before .before .before .before .before .loop .inv .long;
+      reached = λ ρ H′ X. reached-on (x .before .before .before .before .before .before .before .loop .inv .reached ρ H′ X) (found x) (c .before .before .before .before .take-core .ensures) (c .before .before .put-start .ensures .1);
     }
 
 returns-2 : tie.Need-returns-2 Inv-loop μ-loop
@@ -103,7 +109,7 @@ start-all-spec =
     free-cores-requires
     loop-holds
     (λ c κs. search needs)
-    (λ c κs. search needs)
+    next-job-requires
     enum-told
     (λ c. search needs)
     returns
@@ -115,7 +121,7 @@ start-all-spec =
     slice-read-e
     add-e-2
     take-core-requires
-    put-row-requires
+    put-start-requires
     (λ c. search needs)
     (λ c. search needs)
     loop-again

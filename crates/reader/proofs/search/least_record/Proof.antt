@@ -5,9 +5,8 @@ use mathlib.Core.Bool.{Bool}
 use native.Mathlib.Omega.{arith}
 use Rattle.base.proofs.Loop.{NoneTo, none-yet, none-on, first-hit, first-miss}
 use Rattle.model.specs.declared.record.Record.{Record}
-use Rattle.model.specs.Model.{Job, jobOf}
+use Rattle.model.specs.Model.{Job, jobOf, sameJob}
 use Rattle.model.specs.File.{recordAt, recordSize}
-use Rattle.model.specs.Compute.Places.{sameJob}
 use Rattle.reader.proofs.search.least_record.Statement.{statement}
 use Rattle.reader.proofs.search.least_record.Tie as tie
 

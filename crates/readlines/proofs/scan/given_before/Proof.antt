@@ -6,7 +6,7 @@ use borrow.Author.Needs.{needs}
 use Rattle.base.specs.Find.{found}
 use Rattle.base.proofs.Loop.{NoneTo, none-yet, none-on, first-hit, first-miss}
 use Rattle.base.proofs.Test.{says-true, says-false}
-use Rattle.model.specs.Compute.Places.{sameJob}
+use Rattle.model.specs.Model.{sameJob}
 use Rattle.model.proofs.RuleTests.{says-same-job}
 use Rattle.readlines.specs.Scan.{jobIn}
 use Rattle.readlines.proofs.scan.given_before.Statement.{statement}

@@ -11,17 +11,17 @@ use Rattle.starts.proofs.choose.choose.Statement.{statement}
 use Rattle.starts.proofs.choose.choose.Tie as tie
 
 abbrev Inv-loop : tie.InvT-loop
-Inv-loop v core ready rank n best₀ k₀ best k = (k ≤ n) × Choice k v core ready rank (seenTwo best)
+Inv-loop v core job ready rank n best₀ k₀ best k = (k ≤ n) × Choice k v core job ready rank (seenTwo best)
 
 abbrev μ-loop : tie.MeasureT-loop
-μ-loop v core ready rank n best₀ k₀ best k = n - k
+μ-loop v core job ready rank n best₀ k₀ best k = n - k
 
 loop-holds : tie.Need-loop-holds Inv-loop μ-loop
 loop-holds c = (search needs, nobody-yet)
 
 returns : tie.Need-returns Inv-loop μ-loop
 returns c =
-    let e : c .before .loop .k ≡ length (c .before .before .before .before .before .args .core .now) = omega arith in
+    let e : c .before .loop .k ≡ length (c .before .before .before .before .before .before .args .core .now) = omega arith in
     rw e at (c .before .loop .inv .1)
 
 pub choose-spec : {M : Type 1} → statement M

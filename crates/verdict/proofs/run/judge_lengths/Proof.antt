@@ -45,12 +45,12 @@ on-core-requires c κs =
     (ρ, c .before .before .before .before .before .fill-times .ensures ρ I .lent, ap (λ σ. σ .cores) e)
 
 returns : tie.Need-returns
-returns c ρ I e =
+returns c ρ I e s =
     let filled = c .before .before .before .before .before .before .before .before .before .fill-times in
     broken ρ one 4 (omega arith) (c .before .before .before .before .before .lasted .ensures ρ (filled .ensures ρ I .lent)) (ap seen (c .before .wrong-length .given .1))
 
 returns-2 : tie.Need-returns-2
-returns-2 c ρ I e =
+returns-2 c ρ I e s =
     let filled = c .before .before .before .before .before .before .before .before .before .before .before .fill-times in
     broken ρ one 5 (omega arith) (c .before .before .before .before .before .on-core .ensures ρ (filled .ensures ρ I .lent) (ap (λ σ. σ .cores) e)) (ap seen (c .before .no-core .given .1))
     ∙ sym (past-4 (c .before .before .before) ρ (I, e))
@@ -61,7 +61,7 @@ overlapping-requires c κs =
     (ρ, c .before .before .before .before .before .before .before .before .before .before .before .fill-times .ensures ρ I .lent)
 
 returns-3 : tie.Need-returns-3
-returns-3 c ρ I e =
+returns-3 c ρ I e s =
     let filled = c .before .before .before .before .before .before .before .before .before .before .before .before .before .before .before .fill-times in
     broken ρ two 6 (omega arith) (c .before .before .before .overlapping .ensures ρ (filled .ensures ρ I .lent)) (ap seenTwo (c .before .a .given .1))
     ∙ sym (past-5 (c .before .before .before .before .before) ρ (I, e))
@@ -78,9 +78,9 @@ judge-order-requires c κs =
     (ρ, c .before .before .before .fill-times2 .ensures ρ (listed-next I (filled .ensures ρ I)) .lent, e)
 
 returns-4 : tie.Need-returns-4
-returns-4 c ρ I e =
+returns-4 c ρ I e s =
     let filled = c .before .before .before .before .before .before .before .before .before .before .before .before .before .before .before .before .before .before .before .before .fill-times in
-    c .judge-order .ensures ρ (c .before .before .before .before .fill-times2 .ensures ρ (listed-next I (filled .ensures ρ I)) .lent) e
+    c .judge-order .ensures ρ (c .before .before .before .before .fill-times2 .ensures ρ (listed-next I (filled .ensures ρ I)) .lent) e s
     ∙ sym (past-6 (c .before .before .before .before .before .before) ρ (I, e))
 
 pub judge-lengths-spec : {M : Type 1} → statement M

@@ -6,7 +6,7 @@ use borrow.Author.Needs.{needs}
 use denote.Ref.{now}
 use Rattle.base.specs.Find.{seen}
 use Rattle.model.specs.Model.{Run}
-use Rattle.model.specs.Rules.{Jobs, rule1}
+use Rattle.model.specs.Rules.{Jobs, Start, rule1, rule3}
 use Rattle.model.specs.Compute.Places.{one, find}
 use Rattle.model.proofs.Places.{found-nothing}
 use Rattle.openfile.specs.Head.{Tells, Leads}
@@ -85,6 +85,15 @@ past-3 c ρ (T, L) =
     past-2 (c .before .before .before .before) ρ (T, L)
     ∙ passed ρ one 3 (omega arith) (c .before .before .started .ensures ρ (filled .ensures ρ (listed-first L (jobs rule-1 ρ (T, L)) (read .ensures ρ T)) .lent)) (ap seen (c .enum-told3 .given .1))
 
+-- rule 3 holds
+starts : (c : tie.After-enum-told3) (ρ : Run) → Told (c .before .before .before .before .before .before .before .before .before .before .before .before .before .before .before .before .before .before .before .before .before .before .before) ρ → Start ρ
+starts c ρ (T, L) =
+    let rule-1 = c .before .before .before .before .before .before .before .before .before .before .before .before in
+    let read = c .before .before .before .before .before .before .before .before .before .before .before .before .before .before .before .before .before .before .read-table in
+    let filled = c .before .before .before .before .before .before .before .before .before .before .fill-times in
+    found-nothing rule3 ρ .0
+    (sym (c .before .before .started .ensures ρ (filled .ensures ρ (listed-first L (jobs rule-1 ρ (T, L)) (read .ensures ρ T)) .lent)) ∙ ap (Option·map one) (ap seen (c .enum-told3 .given .1)))
+
 returns-3 : tie.Need-returns-3
 returns-3 c ρ T L =
     let rule-1 = c .before .before .before .before .before .before .before .before .before .before .before .before .before in
@@ -102,7 +111,7 @@ judge-lengths-requires c κs =
 returns-4 : tie.Need-returns-4
 returns-4 c ρ T L =
     let I = listed-first L (jobs (c .before .before .before .before .before .before .before .before .before .before .before .before .before .before .before .before) ρ (T, L)) (c .before .before .before .before .before .before .before .before .before .before .before .before .before .before .before .before .before .before .before .before .before .before .read-table .ensures ρ T) in
-    c .before .before .judge-lengths .ensures ρ (listed-next I (c .before .before .before .before .before .before .before .before .before .before .before .before .before .before .fill-times .ensures ρ I)) (tells-setting T)
+    c .before .before .judge-lengths .ensures ρ (listed-next I (c .before .before .before .before .before .before .before .before .before .before .before .before .before .before .fill-times .ensures ρ I)) (tells-setting T) (starts (c .before .before .before .before) ρ (T, L))
     ∙ sym (verdict-first ρ ∙ past-3 (c .before .before .before .before) ρ (T, L))
 
 pub judge-table-spec : {M : Type 1} → statement M
