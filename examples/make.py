@@ -1,6 +1,6 @@
 #!/usr/bin/env python3
-"""Writes the paper's worked runs, and the longest run file, as run files beside this script, and the records of each that is not
-refused as a text table.
+"""Writes the paper's worked runs, runs in which a job is released before the one before it of its task has ended, and the longest
+run file, as run files beside this script, and the records of each that is not refused as a text table.
 
   make.py [FOLDER]
 """
@@ -33,6 +33,10 @@ S = [(10, 1, 2, 0, 1), (30, 6, 8, 0, 1), (60, 15, 17, 0, 2), (60, 15, 20, 0, 2)]
 LAST_TWO = [(2, 0, 0, 0, 17, 1), (3, 0, 0, 0, 15, 2)]
 FIRST_TWO = [(0, 0, 1, 15, 17, 2), (0, 1, 10, 17, 19, 1)]
 UNIT = (1, 1, 1, 0, 0)
+# a task whose jobs take longer than its period, and another
+IN_TURN = [(4, 1, 6, 0, 0), (20, 1, 2, 5, 0)]
+LONG_ONES = [(0, 0, 0, 0, 6, 1), (0, 1, 4, 6, 12, 1)]
+OTHER = (1, 0, 5, 5, 7, 2)
 
 RUNS = {
     "c1": (2, 20, S, FIRST_TWO + [(1, 0, 1, 17, 25, 2)] + LAST_TWO),
@@ -47,6 +51,14 @@ RUNS = {
     "c7": (2, 20, S, FIRST_TWO + [(1, 0, 1, 17, 25, 2)] + LAST_TWO[:1]),
     "c9": (1, 512, [UNIT], [(0, j, j, j, j + 1, 1) for j in range(512)]),
     "c11": (1, 1, [(1, 1, 1, 1, 0)], []),
+    # Job 1 is released at 2 and starts at 3, while job 0 runs to 5: rule 9. No other rule is broken: job 1 is ready at 5, so core 2
+    # may be idle at 2.
+    "beside": (2, 3, [(2, 1, 5, 0, 0)], [(0, 0, 0, 0, 5, 1), (0, 1, 2, 3, 6, 2)]),
+    # Job 1 of task 0 is released at 4 and ready at 6, when job 0 ends. Core 2 is idle from 4 to 5, and then takes the job of task 1,
+    # which is due later. Job 0 ends at 6 and is due at 4, job 1 ends at 12 and is due at 8: two are late, and both begin before H.
+    "turn": (2, 7, IN_TURN, [*LONG_ONES, OTHER]),
+    # turn.run carried to 9. Job 2 of task 0 is released at 8 and ready at 12, when job 1 ends; core 2 is idle from 7 on.
+    "turned": (2, 9, IN_TURN, [*LONG_ONES, (0, 2, 8, 12, 18, 1), OTHER]),
     # 32 tasks with 16 jobs each, released at 32j, two ticks long, on one core: they start one after the other, by job and then by
     # task, half of them from H on. Job j of task i ends at 64j + 2i + 2 and is due at 32j + 32, so it is in time only if j = 0 and
     # i < 16: 496 are late, and record 1 is the first. A carry to its own H starts those from H on in the same order, so it writes

@@ -73,6 +73,12 @@ struct octalmure_record record_of(const Layout *layout, uint32_t number) {
     return octalmure_record_at(layout->bytes + layout->records_at + OCTALMURE_RECORD_BYTES * (size_t)number);
 }
 
+uint32_t ready_of(const Layout *layout, uint32_t number) {
+    struct octalmure_record record = record_of(layout, number);
+    uint32_t before = record.job > 0 ? record_of(layout, number - 1).end : 0;
+    return before > record.release ? before : record.release;
+}
+
 bool deadline_of(const Layout *layout, const struct octalmure_record *record, uint64_t *deadline) {
     if (record->task >= layout->tasks) {
         return false;

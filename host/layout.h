@@ -25,6 +25,9 @@ Layout layout_of(const uint8_t *bytes, size_t length);
 struct octalmure_task task_of(const Layout *layout, uint32_t number);
 struct octalmure_record record_of(const Layout *layout, uint32_t number);
 
+/* Of a run that obeys rule 1: when the job of this record is ready, at the later of its release and the end of the job before it of
+   its task, if there is one. By rule 1 that job's record is the one before. */
+uint32_t ready_of(const Layout *layout, uint32_t number);
 /* A record's deadline, (j + 1)P + O of its task; false if there is no such task. */
 bool deadline_of(const Layout *layout, const struct octalmure_record *record, uint64_t *deadline);
 /* Of a run that the library has accepted: by how many ticks the record is late; 0 if it is not. */

@@ -65,12 +65,20 @@ static void say_jobs_place(FILE *out, const Layout *layout, uint32_t number) {
     }
 }
 
-static void say_pair(FILE *out, const Layout *layout, const uint32_t place[3], const char *between) {
+static void say_overlap(FILE *out, const Layout *layout, const uint32_t place[3]) {
     fputs("The first pair that breaks it: ", out);
     name_record(out, layout, place[0]);
-    fputs(between, out);
+    fputs(" and ", out);
     name_record(out, layout, place[1]);
     fputs(".\n", out);
+}
+
+static void say_order(FILE *out, const Layout *layout, const uint32_t place[3]) {
+    fputs("The first pair that breaks it: ", out);
+    name_record(out, layout, place[0]);
+    fprintf(out, " started at %" PRIu32 ", before ", record_of(layout, place[0]).start);
+    name_record(out, layout, place[1]);
+    fprintf(out, ", which was ready at %" PRIu32 " and is due sooner.\n", ready_of(layout, place[1]));
 }
 
 static void say_record(FILE *out, const Layout *layout, uint32_t number) {
@@ -84,15 +92,27 @@ static void say_numbers(FILE *out, const Layout *layout, uint32_t number) {
     fprintf(out, "r %" PRIu32 ", s %" PRIu32 ", e %" PRIu32 ", core %" PRIu32 ".\n", record.release, record.start, record.end, record.core);
 }
 
+static void say_idling(FILE *out, const Layout *layout, const uint32_t place[3]) {
+    say_record(out, layout, place[0]);
+    fprintf(out, "it is ready at %" PRIu32 " and starts at %" PRIu32 ", and at instant %" PRIu32 " core %" PRIu32 " is idle.\n",
+            ready_of(layout, place[0]), record_of(layout, place[0]).start, place[1], place[2]);
+}
+
+/* Rule 9 is judged where rule 1 holds, so the record before is that of the job before. */
+static void say_in_turn(FILE *out, const Layout *layout, uint32_t number) {
+    say_record(out, layout, number);
+    fprintf(out, "it starts at %" PRIu32 ", and the job before it, ", record_of(layout, number).start);
+    name_record(out, layout, number - 1);
+    fprintf(out, ", ends at %" PRIu32 ".\n", record_of(layout, number - 1).end);
+}
+
 static void say_place(FILE *out, const Layout *layout, uint32_t rule, const uint32_t place[3]) {
     switch (rule) {
     case OCTALMURE_RULE_JOBS: say_jobs_place(out, layout, place[0]); break;
-    case OCTALMURE_RULE_NO_OVERLAP: say_pair(out, layout, place, " and "); break;
-    case OCTALMURE_RULE_ORDER: say_pair(out, layout, place, " started before "); break;
-    case OCTALMURE_RULE_NO_IDLING:
-        say_record(out, layout, place[0]);
-        fprintf(out, "at instant %" PRIu32 " it waits, and core %" PRIu32 " is idle.\n", place[1], place[2]);
-        break;
+    case OCTALMURE_RULE_NO_OVERLAP: say_overlap(out, layout, place); break;
+    case OCTALMURE_RULE_ORDER: say_order(out, layout, place); break;
+    case OCTALMURE_RULE_NO_IDLING: say_idling(out, layout, place); break;
+    case OCTALMURE_RULE_IN_TURN: say_in_turn(out, layout, place[0]); break;
     default:
         say_record(out, layout, place[0]);
         say_numbers(out, layout, place[0]);

@@ -2,7 +2,7 @@
  * gives its records as a text table.
  *
  * For C11 and C++11 and later, on x86-64 Linux. Link with -loctalmure; pkg-config knows it as "octalmure".
- * The words of this file (run file, record, late, H, the rules, text table) are explained in docs/FORMAT.md of the source.
+ * The words of this file (run file, record, ready, late, H, the rules, text table) are explained in docs/FORMAT.md of the source.
  *
  * An accepted run without lateness says nothing about other runs of the same tasks.
  */
@@ -12,7 +12,7 @@
 #include <stddef.h>
 #include <stdint.h>
 
-#define OCTALMURE_VERSION "0.3.1"
+#define OCTALMURE_VERSION "0.4.0"
 
 /* One cast for both languages: C++ warns of C's. */
 #ifdef __cplusplus
@@ -59,7 +59,8 @@ enum octalmure_answer_number {
     OCTALMURE_CARRIED = 5
 };
 
-/* Codes of OCTALMURE_BROKEN, each with the numbers of its place. Records are counted from 0. */
+/* Codes of OCTALMURE_BROKEN, each with the numbers of its place. Records are counted from 0. Rules 7 and 8 ask when a job is ready: at
+   the later of its release and the end of the job before it of its task, if there is one. */
 enum octalmure_rule {
     OCTALMURE_RULE_JOBS = 1,       /* the first k at which the records and the existing jobs, in order, differ */
     OCTALMURE_RULE_RELEASE = 2,    /* record */
@@ -69,6 +70,7 @@ enum octalmure_rule {
     OCTALMURE_RULE_NO_OVERLAP = 6, /* record a, record b; a < b */
     OCTALMURE_RULE_ORDER = 7,      /* record a, record b; a started first */
     OCTALMURE_RULE_NO_IDLING = 8,  /* record, instant, core */
+    OCTALMURE_RULE_IN_TURN = 9,    /* record k; record k - 1 is the job before, and ends after k starts */
     OCTALMURE_RULES_END            /* no rule: the number after the last one */
 };
 
@@ -259,8 +261,9 @@ static inline const char *octalmure_rule_text(uint32_t rule) {
     case OCTALMURE_RULE_LENGTH: return "s <= e and B <= e - s <= W";
     case OCTALMURE_RULE_CORE: return "a core is 1 to N";
     case OCTALMURE_RULE_NO_OVERLAP: return "of two records on one core, one ends no later than the other starts";
-    case OCTALMURE_RULE_ORDER: return "if a starts before b, its deadline is no later, or it starts before b is released";
-    case OCTALMURE_RULE_NO_IDLING: return "while a record waits, every core is busy";
+    case OCTALMURE_RULE_ORDER: return "if a starts before b, its deadline is no later, or it starts before b is ready";
+    case OCTALMURE_RULE_NO_IDLING: return "from when a record is ready until it starts, every core is busy";
+    case OCTALMURE_RULE_IN_TURN: return "no job starts before the one before it of its task has ended";
     default: return "no such rule";
     }
 }

@@ -18,7 +18,7 @@ static void try_decoding(Count *sum) {
 /* Numbers 1 to the last have texts of their own; the numbers around them have the other one. */
 static void try_texts(Count *sum, const char *(*text)(uint32_t), uint32_t last, const char *none) {
     for (uint32_t i = 1; i <= last; i++) {
-        bool own = strcmp(text(i), none) != 0;
+        bool own = strcmp(text(i), none) != 0 && strcmp(text(i), "") != 0;
         for (uint32_t j = 1; j < i; j++) {
             own = own && strcmp(text(i), text(j)) != 0;
         }
@@ -27,8 +27,18 @@ static void try_texts(Count *sum, const char *(*text)(uint32_t), uint32_t last, 
     count(sum, strcmp(text(0), none) == 0 && strcmp(text(last + 1), none) == 0, "a text for a number that is none");
 }
 
+/* Rules 7 and 8 are by when a job is ready, and not by when it is released. */
+static void try_ready(Count *sum) {
+    const char *order = octalmure_rule_text(OCTALMURE_RULE_ORDER), *idling = octalmure_rule_text(OCTALMURE_RULE_NO_IDLING);
+    count(sum, strstr(order, " b is ready") != NULL && strstr(order, "release") == NULL, "the text of rule 7 is not by ready");
+    count(sum, strstr(idling, " is ready ") != NULL && strstr(idling, "release") == NULL, "the text of rule 8 is not by ready");
+    count(sum, strcmp(octalmure_rule_text(9), "no job starts before the one before it of its task has ended") == 0,
+          "rule 9 has another text");
+}
+
 void try_answers(Count *sum) {
     try_decoding(sum);
+    try_ready(sum);
     try_texts(sum, octalmure_rule_text, OCTALMURE_RULES_END - 1, "no such rule");
     try_texts(sum, octalmure_refusal_text, OCTALMURE_REFUSAL_NOT_RISING, "no such refusal");
 }

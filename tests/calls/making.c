@@ -193,6 +193,20 @@ static Run run_c2(void) {
     return run;
 }
 
+/* Two jobs of one task beside each other: job 1 starts at 3 and is ready at 5. */
+static const Run beside = {
+    .cores = 2, .horizon = 3, .tasks = 1, .records = 2,
+    .task = {{2, 1, 5, 0, 0}},
+    .record = {{0, 0, 0, 0, 5, 1}, {0, 1, 2, 3, 6, 2}},
+};
+
+/* The same, but job 1 starts when it is ready: core 2 is idle all the while, and both are late, job 1 from H on. */
+static Run run_in_turn(void) {
+    Run run = beside;
+    run.record[1][3] = 5;
+    return run;
+}
+
 static Run run_c9(void) {
     Run run = {.cores = 1, .horizon = 512, .tasks = 1, .records = 512, .task = {{1, 1, 1, 0, 0}}};
     for (uint32_t j = 0; j < run.records; j++) {
@@ -226,8 +240,20 @@ static void try_paper(Count *sum, const uint8_t *c2, size_t c2_length, const uin
     try_checked(sum, file, length, (struct octalmure_answer){0, 0, {0, 0, 0}}, "C9 as it is made has not the paper's answer");
 }
 
+static void try_in_turn(Count *sum) {
+    static uint8_t file[OCTALMURE_MOST_FILE_BYTES];
+    Run in_turn = run_in_turn();
+    size_t length = (size_t)(make(&beside, file) - file);
+    try_checked(sum, file, length, (struct octalmure_answer){OCTALMURE_BROKEN, OCTALMURE_RULE_IN_TURN, {1, 0, 0}},
+                "two jobs of one task beside each other do not break rule 9");
+    length = (size_t)(make(&in_turn, file) - file);
+    try_checked(sum, file, length, (struct octalmure_answer){OCTALMURE_LATE_BEFORE_H, 2, {0, 0, 0}},
+                "a job that starts when the one before it has ended is not accepted");
+}
+
 void try_making(Count *sum, const uint8_t *c2, size_t c2_length, const uint8_t *c9, size_t c9_length) {
     try_entries(sum);
     try_runs(sum);
     try_paper(sum, c2, c2_length, c9, c9_length);
+    try_in_turn(sum);
 }

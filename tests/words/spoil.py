@@ -1,6 +1,6 @@
 #!/usr/bin/env python3
-"""Writes run C1 with single numbers changed, one file for each sentence that the examples do not bring about, and its table with
-single lines changed.
+"""Writes run C1 with single numbers changed, and turned.run, which stands beside it, one file for each sentence that the examples do
+not bring about, and C1's table with single lines changed.
 
   spoil.py C1.run FOLDER
 """
@@ -9,16 +9,24 @@ import struct
 import sys
 
 C1, FOLDER = pathlib.Path(sys.argv[1]).read_bytes(), pathlib.Path(sys.argv[2])
+TURNED = pathlib.Path(sys.argv[1]).with_name("turned.run").read_bytes()
 TABLE = pathlib.Path(sys.argv[1]).with_suffix(".csv").read_bytes()
-FIRST_TASK, FIRST_RECORD = 4, 25
+FIRST_TASK = 4
 
 
 def task(number, field):
     return FIRST_TASK + 5 * number + "PBWOJ".index(field)
 
 
-def record(number, field):
-    return FIRST_RECORD + 6 * number + ("task", "job", "r", "s", "e", "core").index(field)
+def record(number, field, tasks=4):
+    return FIRST_TASK + 5 * tasks + 1 + 6 * number + ("task", "job", "r", "s", "e", "core").index(field)
+
+
+def spoiled(run, changes):
+    numbers = list(struct.unpack(f"<{len(run) // 4}I", run))
+    for at, value in changes.items():
+        numbers[at] = value
+    return struct.pack(f"<{len(numbers)}I", *numbers)
 
 
 SPOILED = {
@@ -32,6 +40,8 @@ SPOILED = {
         record(1, "s"): 19, record(1, "e"): 21,
         record(2, "s"): 15, record(2, "e"): 23,
     },
+    # record 1 is released at 10 and ready at 17, when record 0 ends: then both cores are free
+    "rule-8": {record(1, "s"): 18, record(1, "e"): 20, record(2, "s"): 18},
     "rule-1-other": {record(1, "job"): 7},
     "far": {task(2, "P"): 900000, task(3, "P"): 900000},
     "top": {record(0, "s"): 2**32 - 9, record(0, "e"): 2**32 - 1, record(1, "s"): 9, record(1, "e"): 3, record(2, "task"): 4},
@@ -39,9 +49,11 @@ SPOILED = {
     "refusal-3": {1: 17},
     "refusal-4": {3: 33},
     "refusal-5": {task(1, "P"): 0},
-    "refusal-7": {FIRST_RECORD - 1: 513},
+    "refusal-7": {record(0, "task") - 1: 513},
     "not-rising": {record(1, "job"): 0},
 }
+# job 2 of task 0 starts at 10 on core 2, and job 1 ends at 12
+BESIDE = {record(2, "s", tasks=2): 10, record(2, "e", tasks=2): 16, record(2, "core", tasks=2): 2}
 # how many bytes are left
 CUT = {"cut-count": 2, "cut-setting": 8, "cut-tasks": 61, "cut-records": 150}
 # as spreadsheets and people write tables
@@ -61,10 +73,8 @@ TABLES = {
 }
 
 for name, changes in SPOILED.items():
-    numbers = list(struct.unpack(f"<{len(C1) // 4}I", C1))
-    for at, value in changes.items():
-        numbers[at] = value
-    (FOLDER / f"{name}.run").write_bytes(struct.pack(f"<{len(numbers)}I", *numbers))
+    (FOLDER / f"{name}.run").write_bytes(spoiled(C1, changes))
+(FOLDER / "rule-9.run").write_bytes(spoiled(TURNED, BESIDE))
 for name, length in CUT.items():
     (FOLDER / f"{name}.run").write_bytes(C1[:length])
 for name, contents in TABLES.items():
