@@ -171,19 +171,37 @@ static void time_permitted(Bench *bench, uint32_t records, uint32_t cores) {
     time_carry(bench, "late, to 2H", 2 * c.file.horizon, records, cores, &c);
 }
 
-static void time_broken(Bench *bench, uint32_t records, uint32_t cores) {
+static void time_rule(Bench *bench, uint32_t records, uint32_t cores, uint32_t rule) {
     static Case c;
     char name[40];
-    for (uint32_t rule = 1; rule <= RULES; rule++) {
-        snprintf(name, sizeof name, "rule %" PRIu32 ", front", rule);
-        broken_file(records, cores, rule, AT_THE_FRONT, &c.file);
-        time_check(bench, name, records, cores, &c);
-        snprintf(name, sizeof name, "rule %" PRIu32 ", back", rule);
-        broken_file(records, cores, rule, AT_THE_BACK, &c.file);
-        time_check(bench, name, records, cores, &c);
+    snprintf(name, sizeof name, "rule %" PRIu32 ", front", rule);
+    broken_file(records, cores, rule, AT_THE_FRONT, &c.file);
+    time_check(bench, name, records, cores, &c);
+    snprintf(name, sizeof name, "rule %" PRIu32 ", back", rule);
+    broken_file(records, cores, rule, AT_THE_BACK, &c.file);
+    time_check(bench, name, records, cores, &c);
+    if (rule >= 8) {
+        snprintf(name, sizeof name, "rule %" PRIu32 ", back, to H", rule);
+        time_carry(bench, name, c.file.horizon, records, cores, &c);
     }
-    snprintf(name, sizeof name, "rule %u, back, to H", RULES);
-    time_carry(bench, name, c.file.horizon, records, cores, &c);
+}
+
+static void time_broken(Bench *bench, uint32_t records, uint32_t cores) {
+    for (uint32_t rule = 1; rule <= RULES; rule++) {
+        if (rule < 9 || cores > 1) {
+            time_rule(bench, records, cores, rule);
+        }
+    }
+}
+
+/* Only where there are several cores does a job wait for the one before it and for nothing else. */
+static void time_chains(Bench *bench, uint32_t records, uint32_t cores) {
+    static Case c;
+    permitted_file(records, cores, IN_CHAINS, &c.file);
+    time_check(bench, "in chains", records, cores, &c);
+    time_carry(bench, "in chains, to H", c.file.horizon, records, cores, &c);
+    half_file(records, cores, IN_CHAINS, &c.file);
+    time_carry(bench, "in chains, to 2H", 2 * c.file.horizon, records, cores, &c);
 }
 
 static void time_small(Bench *bench) {
@@ -258,6 +276,7 @@ int main(int argc, char **argv) {
         }
         time_broken(&bench, 512, some_cores[i]);
     }
+    time_chains(&bench, 512, 16);
     time_small(&bench);
     time_tables(&bench);
     time_small_tables(&bench);

@@ -62,9 +62,33 @@ static void draw_run(uint32_t records, uint32_t cores, Load load, Chance *chance
     }
 }
 
+/* One period for all. A job takes from 15 to 20 sixteenths of it, so that nearly every one waits for the one before it, ever
+   longer, and never for a core. */
+static void draw_chains(uint32_t records, uint32_t cores, Chance *chance, Run *run) {
+    run->cores = cores;
+    run->task_count = cores / 2;
+    run->horizon = records / run->task_count * SHORT_PERIOD;
+    for (uint32_t i = 0; i < run->task_count; i++) {
+        Task *task = &run->tasks[i];
+        task->period = SHORT_PERIOD;
+        task->greatest = SHORT_PERIOD * 20 / 16;
+        task->least = SHORT_PERIOD * 15 / 16;
+        task->offset = below(chance, SHORT_PERIOD);
+        task->jitter = SHORT_PERIOD / 8;
+    }
+}
+
+static void draw_load(uint32_t records, uint32_t cores, Load load, Chance *chance, Run *run) {
+    if (load == IN_CHAINS) {
+        draw_chains(records, cores, chance, run);
+    } else {
+        draw_run(records, cores, load, chance, run);
+    }
+}
+
 static void permitted_run(uint32_t records, uint32_t cores, Load load, Run *run) {
     Chance chance = chance_of(7, records * 64 + cores * 2 + load);
-    draw_run(records, cores, load, &chance, run);
+    draw_load(records, cores, load, &chance, run);
     serve(run, NO_FAULT, &chance);
 }
 
@@ -77,7 +101,7 @@ void permitted_file(uint32_t records, uint32_t cores, Load load, File *file) {
 void half_file(uint32_t records, uint32_t cores, Load load, File *file) {
     Run run;
     Chance chance = chance_of(8, records * 64 + cores * 2 + load);
-    draw_run(records, cores, load, &chance, &run);
+    draw_load(records, cores, load, &chance, &run);
     run.horizon /= 2;
     serve(&run, NO_FAULT, &chance);
     write_file(&run, file);
@@ -117,7 +141,8 @@ static void break_at(Run *run, uint32_t rule, Record *a, Record *b) {
     case 5: a->core = run->cores + 1; break;
     case 6: overlap(a, b); break;
     case 7: exchange(a, b); break;
-    default: move_to(a, a->start + 1); break;
+    case 8: move_to(a, a->start + 1); break;
+    default: a->start--; break; /* where it started as the one before it ended */
     }
 }
 
@@ -130,7 +155,7 @@ static uint32_t broken_rule(const File *file) {
 void broken_file(uint32_t records, uint32_t cores, uint32_t rule, Where where, File *file) {
     Run run;
     uint32_t others = rule == 6 || rule == 7 ? records : 1;
-    permitted_run(records, cores, rule == 7 ? OVERLOADED : HALF_BUSY, &run);
+    permitted_run(records, cores, rule == 7 ? OVERLOADED : rule == 9 ? IN_CHAINS : HALF_BUSY, &run);
     for (uint32_t i = 0; i < records; i++) {
         for (uint32_t j = 0; j < others; j++) {
             uint32_t a = where == AT_THE_FRONT ? i : records - 1 - i, b = where == AT_THE_FRONT ? j : records - 1 - j;

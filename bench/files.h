@@ -18,8 +18,9 @@ typedef struct {
     size_t length;
 } Table;
 
-/* How busy the cores are: half of what they can do, so that no job is late, or three times that, so that jobs wait ever longer. */
-typedef enum { HALF_BUSY, OVERLOADED } Load;
+/* How busy the cores are: half of what they can do, so that no job is late, or three times that, so that jobs wait ever longer. In
+   chains they are half busy too, but by few tasks: most jobs take longer than their period, and the next one waits for the end. */
+typedef enum { HALF_BUSY, OVERLOADED, IN_CHAINS } Load;
 
 /* Where a fault stands: as near to the first record as one can be put, or to the last. */
 typedef enum { AT_THE_FRONT, AT_THE_BACK } Where;
@@ -27,11 +28,12 @@ typedef enum { AT_THE_FRONT, AT_THE_BACK } Where;
 /* In which order the lines of a table stand: as export writes them, as the records stand in the file, or neither. */
 typedef enum { BY_START, BY_JOB, IN_NO_ORDER } Order;
 
-/* A permitted run of 32 tasks. The records are 64, 128, 256 or 512. */
+/* A permitted run of 32 tasks; of half as many tasks as there are cores in chains, where the cores are 2, 4, 8 or 16. The records
+   are 64, 128, 256 or 512. */
 void permitted_file(uint32_t records, uint32_t cores, Load load, File *file);
 /* The first part of that run: half as many records, recorded up to half of its horizon. */
 void half_file(uint32_t records, uint32_t cores, Load load, File *file);
-/* A run that breaks just this rule, and no lower one. */
+/* A run that breaks just this rule, and no lower one. On one core none breaks rule 9. */
 void broken_file(uint32_t records, uint32_t cores, uint32_t rule, Where where, File *file);
 /* The paper's first run: five records. */
 void worked_file(File *file);

@@ -155,12 +155,27 @@ static Call with_file(const Call *call, const Memory *memory) {
     return again;
 }
 
+/* In an accepted run no job starts before the end of the one before it. */
+static void demand_in_turn(const Call *call, const Memory *checked) {
+    if (checked->returned > OCTALMURE_LATE_FROM_H) {
+        return;
+    }
+    size_t tasks = octalmure_number(call->file + OCTALMURE_SETTING_BYTES);
+    const uint8_t *records = call->file + OCTALMURE_FILE_BYTES(tasks, 0), *end = call->file + call->length;
+    for (const uint8_t *at = records; at < end; at += OCTALMURE_RECORD_BYTES) {
+        struct octalmure_record record = octalmure_record_at(at);
+        demand(record.job == 0 || octalmure_record_at(at - OCTALMURE_RECORD_BYTES).end <= record.start,
+               "a job of an accepted run starts before the end of the one before it");
+    }
+}
+
 /* The carried run is accepted, and lateness that was shown stays shown. */
 static void demand_carried(const Call *call, const Memory *carried, uint32_t before) {
     static Memory memory;
     Call again = with_file(call, carried);
     agree(&again, check, &memory);
     demand(memory.returned <= OCTALMURE_LATE_FROM_H, "the carried run is not accepted");
+    demand_in_turn(&again, &memory);
     demand(before != OCTALMURE_LATE_BEFORE_H || memory.returned == OCTALMURE_LATE_BEFORE_H, "lateness before H did not stay");
 }
 
@@ -194,6 +209,7 @@ static void try_runs(const Call *call) {
     static Memory checked, carried;
     agree(call, check, &checked);
     demand_laws(call, &checked, false);
+    demand_in_turn(call, &checked);
     agree(call, carry, &carried);
     demand_laws(call, &carried, true);
     if (wrote(&carried)) {

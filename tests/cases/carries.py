@@ -31,13 +31,16 @@ def opened(run, longer):
 
 
 def carried(run, longer):
-    """From instant H on, while a core is free and a released job has not begun, the one due soonest starts on the lowest free core."""
+    """From instant H on, while a core is free and a ready job has not begun, the one due soonest starts on the lowest free core. Ready
+    is one that is released, and whose task's preceding job, if there is one, has begun and ended."""
     cores, t, tasks, _ = run
     jobs = opened(run, longer)
+    of = {(x[0], x[1]): x for x in jobs}
     due = lambda x: ((x[1] + 1) * tasks[x[0]][0] + tasks[x[0]][3], x[0], x[1])
+    over = lambda x: x is None or (x[3] is not None and x[4] <= t)
     while any(x[3] is None for x in jobs):
         for core in range(1, cores + 1):
-            ready = [x for x in jobs if x[3] is None and x[2] <= t]
+            ready = [x for x in jobs if x[3] is None and x[2] <= t and over(of.get((x[0], x[1] - 1)))]
             if ready and not any(x[3] is not None and x[5] == core and x[3] <= t < x[4] for x in jobs):
                 first = min(ready, key=due)
                 first[3:] = [t, t + tasks[first[0]][2], core]
@@ -76,6 +79,31 @@ longer((3, 5, [(9, 2, 4, 5 + i, 3) for i in range(32)], []), 120)
 # a job that is released late by its jitter and had not begun at H keeps its release
 longer((1, 1, [(100, 5, 9, 0, 80), (30, 2, 2, 0, 0)], [(0, 0, 50, 50, 57, 1), (1, 0, 0, 0, 2, 1)]), 200)
 
+# Carrying starts ready jobs only. One task on two cores, its first job on one of them from 0 to 6, and the next is released at 4: it
+# starts at 6, and so on, and one core stays idle
+SLOW = (4, 1, 6, 0, 0)
+for horizon in (1, 4, 5, 9, 100):
+    longer((2, 1, [SLOW], [(0, 0, 0, 0, 6, 1)]), horizon)
+    longer((2, 1, [SLOW], [(0, 0, 0, 0, 6, 2)]), horizon)
+# to H itself: the job before outlasts H, ends at H, or begins anew itself, so that where it was recorded to end is of no account
+for horizon in (5, 8, 60):
+    longer((2, 5, [SLOW], [(0, 0, 0, 0, 6, 1), (0, 1, 4, 6, 7, 2)]), horizon)
+    longer((2, 5, [(2, 1, 6, 0, 0)], [(0, 0, 0, 0, 6, 1), (0, 1, 2, 6, 7, 2), (0, 2, 4, 7, 8, 1)]), horizon)
+longer((2, 6, [SLOW], [(0, 0, 0, 0, 6, 2), (0, 1, 4, 6, 9, 2)]), 6)
+# two that are due at once get ready at once
+for horizon in (5, 60):
+    longer((2, 1, [SLOW, SLOW], [(0, 0, 0, 0, 6, 2), (1, 0, 0, 0, 6, 1)]), horizon)
+    longer((2, 1, [SLOW, SLOW, SLOW], [(0, 0, 0, 0, 6, 2), (1, 0, 0, 0, 6, 1), (2, 0, 0, 6, 7, 2)]), horizon)
+# a core falls free and no job is ready; one that is due later goes first; one that is due sooner takes the core at that end
+for horizon in (5, 6, 100):
+    longer((2, 1, [SLOW, (100, 1, 3, 0, 0)], [(0, 0, 0, 0, 6, 2), (1, 0, 0, 0, 3, 1)]), horizon)
+    longer((2, 1, [SLOW, (100, 1, 3, 5, 0)], [(0, 0, 0, 0, 6, 1)]), horizon)
+    longer((2, 1, [SLOW, (100, 1, 20, 0, 0), (2, 1, 3, 5, 0)], [(0, 0, 0, 0, 6, 1), (1, 0, 0, 0, 20, 2)]), horizon)
+# many cores, and one job at a time; many tasks that all fall behind
+longer((16, 1, [(1, 3, 3, 0, 0)], [(0, 0, 0, 0, 3, 7)]), 100)
+longer((2, 1, [(1, 2, 2, 0, 0)], [(0, 0, 0, 0, 2, 2)]), 512)
+longer((5, 1, [(3, 1, 8 + i, i, 2) for i in range(12)], [(0, 0, 0, 0, 4, 5)]), 60)
+
 # 9: H' below H (C12) or above 1,000,000
 one = run(*C1)
 case(one, 19, 16384, refused(9))
@@ -89,7 +117,8 @@ case(one, 3061, 16384, refused(6))
 case(run(*C11), 514, 16384, refused(6))
 case(run(1, 1, [UNIT], [(0, 0, 0, 0, 1, 1)]), 513, 16384, refused(6))
 # 10: a broken rule
-for broken in (C5, C6, C7):
+BESIDE = (2, 8, [SLOW], [(0, 0, 0, 0, 6, 1), (0, 1, 4, 5, 6, 2)])  # rule 9
+for broken in (C5, C6, C7, BESIDE):
     case(run(*broken), broken[1], 16384, refused(10))
 # 11: a byte too few; exactly enough is above
 case(one, 30, 243, refused(11))
@@ -101,3 +130,6 @@ case(one + b"\0", 19, 0, refused(8))
 case(run(*C6), 1000001, 0, refused(9))
 case(run(*C6), 3080, 0, refused(6))
 case(run(*C6), 20, 0, refused(10))
+case(run(*BESIDE), 7, 0, refused(9))
+case(run(*BESIDE), 2049, 0, refused(6))
+case(run(*BESIDE), 2048, 0, refused(10))

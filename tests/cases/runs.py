@@ -60,3 +60,81 @@ two("3 8 0 0 1", 2, 1, (10, 0), (5, 0), (0, 1, 2, 1), (0, 1, 2, 2))
 two("2 1 1 0 0", 1, 2, (10, 0), (2, 1), (0, 0, 2, 1), (1, 2, 4, 1))
 two("1 1 1 0 0", 1, 3, (10, 0), (2, 1), (0, 0, 2, 1), (1, 2, 4, 1))
 two("0 0 0 0 0", 1, 3, (10, 0), (2, 1), (0, 0, 2, 1), (1, 2, 3, 1))
+
+# A job is ready at the later of its release and the end of its task's preceding job, if there is one. Two cores, one task: its jobs
+# are released at 0 and 4 and due at 4 and 8.
+
+
+def follows(line, first, second, cores=2):
+    case(line, cores, 8, [(4, 1, 9, 0, 0)], [(0, 0, 0) + first, (0, 1, 4) + second])
+
+
+# rule 9: each job starts no earlier than the end of the one before. Core 2 is idle from 4 to 6, and no ready job waits for it
+follows("1 1 0 0 0", (0, 6, 1), (6, 7, 2))
+follows("1 1 0 0 0", (0, 6, 1), (6, 7, 1))
+follows("3 9 1 0 0", (0, 6, 1), (5, 6, 2))
+follows("3 9 1 0 0", (0, 6, 1), (4, 5, 2))
+follows("3 6 0 1 0", (0, 6, 1), (5, 6, 1))
+# rule 8: from ready to the start. It is ready at 6, where both cores are idle; at 4, where both are, since the one before is over
+follows("3 8 1 6 1", (0, 6, 1), (7, 8, 2))
+follows("3 8 1 6 1", (0, 6, 2), (8, 9, 1))
+follows("3 8 1 4 1", (0, 4, 1), (5, 6, 2))
+follows("3 8 1 4 1", (0, 3, 1), (5, 6, 2))
+follows("0 0 0 0 0", (0, 4, 1), (4, 5, 2))
+follows("0 0 0 0 0", (0, 3, 1), (4, 5, 2))
+# the second job never starts first: it is due later, and the first is ready
+follows("3 7 1 0 0", (5, 6, 1), (4, 5, 1), cores=1)
+follows("3 7 1 0 0", (5, 6, 1), (4, 5, 2))
+# both at once: the first waited from 0 on, and that is rule 8
+follows("3 8 0 0 1", (4, 6, 1), (4, 5, 2))
+
+
+def and_another(line, other, first, second, third):
+    """The same task, and one with this period and offset, B 1, W 9, J 0; its job 0."""
+    case(line, 2, 8, [(4, 1, 9, 0, 0), (other[0], 1, 9, other[1], 0)], [(0, 0, 0) + first, (0, 1, 4) + second, (1, 0, other[1]) + third])
+
+
+# rule 7: if a starts strictly before b, then deadline of a <= deadline of b, or a starts strictly before b is ready. The other task's
+# job is due after 100 and starts when job 1 is released and not ready; when it is ready; with it; and before its release
+and_another("1 1 0 0 0", (100, 5), (0, 6, 1), (6, 7, 1), (5, 9, 2))
+and_another("1 1 0 0 0", (100, 4), (0, 6, 1), (6, 7, 1), (4, 9, 2))
+and_another("3 7 2 1 0", (100, 6), (0, 6, 1), (7, 8, 1), (6, 9, 2))
+and_another("3 7 2 1 0", (100, 4), (0, 3, 1), (5, 6, 1), (4, 9, 2))
+and_another("1 1 0 0 0", (100, 6), (0, 6, 1), (6, 7, 1), (6, 9, 2))
+and_another("0 0 0 0 0", (100, 3), (0, 3, 1), (4, 5, 1), (3, 9, 2))
+# beside itself: it is ready only at 6, so that rule 7 has nothing against what starts at 4 and rule 8 no instant; and rule 7 is told
+# before rule 9, and rule 8 before rule 9
+and_another("3 9 1 0 0", (100, 4), (0, 6, 1), (5, 6, 2), (4, 5, 2))
+and_another("3 8 2 0 2", (8, 0), (0, 6, 1), (5, 6, 2), (1, 2, 2))
+case("3 7 2 3 0", 3, 8, [(4, 1, 9, 0, 0), (100, 1, 9, 0, 0), (8, 1, 9, 0, 0)],
+     [(0, 0, 0, 0, 6, 1), (0, 1, 4, 5, 6, 2), (1, 0, 0, 0, 1, 3), (2, 0, 0, 1, 2, 3)])
+# due together, and core 1 is taken: core 2 is the idle one
+and_another("3 8 1 6 2", (2, 6), (0, 6, 1), (7, 8, 2), (6, 9, 1))
+# the first job of a task waits for none, though the record before it runs on
+and_another("1 1 0 0 0", (100, 0), (0, 6, 1), (6, 7, 1), (0, 3, 2))
+# ready, and no core is free until 8; and one tick longer
+for line, start in (("1 3 0 0 0", 8), ("3 8 1 8 2", 9)):
+    case(line, 2, 8, [(4, 1, 9, 0, 0), (8, 1, 50, 0, 0), (8, 1, 9, 0, 0)],
+         [(0, 0, 0, 0, 6, 1), (0, 1, 4, start, start + 1, 2), (1, 0, 0, 0, 8, 2), (2, 0, 0, 6, 9, 1)])
+
+
+def four(line, *times, cores=2):
+    """Four jobs of one task, released at 0, 2, 4 and 6 and due at 2, 4, 6 and 8."""
+    case(line, cores, 8, [(2, 1, 5, 0, 0)], [(0, j, 2 * j) + each for j, each in enumerate(times)])
+
+
+# each as the one before ends: all are late, and the first begins before H
+four("1 4 0 0 0", (0, 5, 1), (5, 10, 2), (10, 15, 1), (15, 16, 2))
+four("3 9 2 0 0", (0, 5, 1), (5, 10, 2), (9, 14, 1), (14, 15, 2))
+four("3 8 3 14 1", (0, 5, 1), (5, 10, 2), (9, 14, 1), (15, 16, 2))
+four("3 9 1 0 0", (0, 5, 1), (4, 9, 2), (8, 13, 1), (13, 14, 2))
+four("3 9 3 0 0", (0, 2, 1), (2, 4, 1), (4, 8, 1), (7, 8, 2))
+# paper 01 let all four run beside each other
+four("3 9 1 0 0", (0, 5, 1), (2, 7, 2), (4, 9, 3), (6, 11, 4), cores=4)
+# released late by its jitter, long after the one before
+case("0 0 0 0 0", 1, 11, [(10, 1, 9, 0, 5)], [(0, 0, 0, 0, 2, 1), (0, 1, 12, 12, 13, 1)])
+# 512 two-tick jobs every tick on two cores: each starts as the one before ends, on the other core, which idles while they wait. The
+# last one a tick early runs beside the one before it; a tick late it leaves core 1 idle at 1022
+PAIRED = [(0, k, k, 2 * k, 2 * k + 2, 1 + k % 2) for k in range(512)]
+for line, last in (("1 512 0 0 0", 1022), ("3 9 511 0 0", 1021), ("3 8 511 1022 1", 1023)):
+    case(line, 2, 512, [(1, 2, 2, 0, 0)], PAIRED[:511] + [(0, 511, 511, last, last + 2, 2)])

@@ -284,9 +284,9 @@ static void draw_empty_set(Run *run, Chance *chance) {
     }
 }
 
-static void spoiled_case(Run *run, uint32_t option, Chance *chance) {
+static void spoiled_case(Run *run, uint32_t option, uint32_t rule, Chance *chance) {
     if (option < 78) {
-        spoil_rule(run, between(chance, 1, RULES), chance);
+        spoil_rule(run, rule, chance);
     } else if (option < 87) {
         for (uint32_t left = between(chance, 1, 3); left > 0; left--) {
             spoil_number(run, chance);
@@ -296,19 +296,28 @@ static void spoiled_case(Run *run, uint32_t option, Chance *chance) {
     }
 }
 
+/* Some faults need jobs that wait for the ones before them. Others have such sets, too, but seldom. */
+static bool needs_overrun(Fault fault, uint32_t rule, Chance *chance) {
+    bool sure = fault == WAITS_BEHIND || fault == BESIDE_ITSELF || rule == 9;
+    return sure || one_in(chance, rule == 7 || rule == 8 ? 2 : 6);
+}
+
 /* The option, below 100, says what becomes of the run: permitted runs, each rule and each refusal have their share. */
 static void mixed_case(Chance *chance, Case *made) {
     Run run;
-    uint32_t option = below(chance, 100);
+    uint32_t option = below(chance, 100), rule = between(chance, 1, RULES);
     bool faulty_server = 34 <= option && option < 48;
+    Fault fault = faulty_server ? between(chance, 1, FAULTS - 1) : NO_FAULT;
     draw_set(&run, draw_shape(chance), chance);
     if (option == 0) {
         draw_empty_set(&run, chance);
+    } else if (needs_overrun(fault, 48 <= option && option < 78 ? rule : 0, chance)) {
+        make_overrun(&run, chance);
     }
-    serve(&run, faulty_server ? between(chance, 1, FAULTS - 1) : NO_FAULT, chance);
+    serve(&run, fault, chance);
     made->permitted = option < 34;
     if (48 <= option && option < 89) {
-        spoiled_case(&run, option, chance);
+        spoiled_case(&run, option, rule, chance);
     }
     write_file(&run, made);
     if (89 <= option && option < 99) {

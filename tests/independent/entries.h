@@ -6,7 +6,7 @@
 
 /* How many rules and refusals there are; both are numbered from 1. The first eleven refusals are those of check and carry, and
    import and export have the others. */
-enum { RULES = 8, CARRY_REFUSALS = 11, REFUSALS = 14 };
+enum { RULES = 9, CARRY_REFUSALS = 11, REFUSALS = 14 };
 
 enum { MOST_CORES = 16, MOST_TASKS = 32, MOST_JOBS = 512, MOST_TICKS = 1000000 };
 

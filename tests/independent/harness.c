@@ -1,17 +1,20 @@
 /* harness SEED COUNT [PATH]         holds the library to the oracle on COUNT files and as many tables
    harness --self SEED COUNT [PATH]  holds the oracle to itself, to the laws of the slices and to a word by word reading
    PATH gets the first file that they differ on, PATH.table the first table, and PATH.file the file that was given with it.
-   Both try the worked runs of the paper, the tables written by hand, and the long files and tables of the seed too. */
+   Both try the worked runs of the paper, the runs and tables worked by hand for its requests, and the long files and tables of the
+   seed too. */
 #include <inttypes.h>
 #include <stdbool.h>
 #include <stdio.h>
 #include <stdlib.h>
 #include <string.h>
 
+#include "apart.h"
 #include "call.h"
 #include "cases.h"
 #include "entries.h"
 #include "exchange.h"
+#include "following.h"
 #include "handmade.h"
 #include "inout.h"
 #include "literal.h"
@@ -30,7 +33,7 @@ extern uint32_t octalmure_export(const uint8_t *file, size_t file_length, uint8_
                                  size_t answer_length);
 #endif
 
-enum { REFUSED = 4, CARRIED = 5, MOST_REPORTS = 20, ENOUGH_CASES = 50000 };
+enum { RULE_BROKEN = 3, REFUSED = 4, CARRIED = 5, MOST_REPORTS = 20, ENOUGH_CASES = 50000, RULE_ONCE_IN = 100 };
 
 /* ---- what was met ---- */
 
@@ -40,7 +43,9 @@ typedef struct {
 
 typedef struct {
     Met check, carry, carried;
-    uint64_t literal_idling, literal_carried;
+    Apart apart;
+    uint64_t not_carried[RULES + 1]; /* which rule is broken by a run that is refused with 10 */
+    uint64_t literal_rules[RULES + 1], literal_carried;
 } Tally;
 
 static void meet(Met *met, const Call *call) {
@@ -48,7 +53,7 @@ static void meet(Met *met, const Call *call) {
         met->short_slices++;
     } else if (call->returned <= CARRIED) {
         met->answers[call->returned]++;
-        met->rules[call->returned == 3 ? call->numbers[1] % (RULES + 1) : 0]++;
+        met->rules[call->returned == RULE_BROKEN ? call->numbers[1] % (RULES + 1) : 0]++;
         met->refusals[call->returned == REFUSED ? call->numbers[1] % (REFUSALS + 1) : 0]++;
     }
 }
@@ -80,10 +85,31 @@ static uint64_t never_met(const char *what, const uint64_t *check, const uint64_
     return count;
 }
 
-static uint64_t never_met_at_all(const Tally *tally) {
+/* Fewer than that of each rule would say little of its places and borders. */
+static uint64_t seldom_met(const Tally *tally, uint64_t least) {
+    uint64_t count = 0;
+    for (uint32_t rule = 1; rule <= RULES; rule++) {
+        if (tally->check.rules[rule] < least) {
+            printf("rule %" PRIu32 " was met %" PRIu64 " times, and not %" PRIu64 "\n", rule, tally->check.rules[rule], least);
+            count++;
+        }
+    }
+    return count;
+}
+
+static uint64_t never_met_at_all(const Tally *tally, uint64_t cases) {
     const Met *check = &tally->check, *carry = &tally->carry;
-    return never_met("answer", check->answers, carry->answers, 0, 5) + never_met("rule", check->rules, carry->rules, 1, RULES) +
-           never_met("refusal", check->refusals, carry->refusals, 1, CARRY_REFUSALS);
+    const uint64_t *not_carried = tally->not_carried;
+    return never_met("answer", check->answers, carry->answers, 0, 5) + seldom_met(tally, cases / RULE_ONCE_IN) +
+           never_met("refusal", check->refusals, carry->refusals, 1, CARRY_REFUSALS) +
+           never_met("refusal 10 by rule", not_carried, not_carried, 1, RULES);
+}
+
+/* What the oracle's own test read tick by tick. */
+static uint64_t never_read(const Tally *tally) {
+    const uint64_t *rules = tally->literal_rules, *carried = &tally->literal_carried;
+    return never_met("tick by tick, broken rule", rules, rules, 0, 0) + never_met("tick by tick, rule", rules, rules, 7, RULES) +
+           never_met("tick by tick, carried file", carried, carried, 0, 0);
 }
 
 /* ---- the trial of a case ---- */
@@ -124,18 +150,17 @@ static Bytes file_of(const Trial *trial) {
     return (Bytes){trial->file, trial->made.length};
 }
 
-/* The oracle said that rule 8 is broken there, or that no rule is. */
-static const char *judge_idling(Trial *trial) {
+/* The oracle said that one of the rules 7 to 9 is broken there, or that no rule is. */
+static const char *judge_literally(Trial *trial) {
     const Call *call = &trial->oracle_call;
-    uint32_t place[3] = {0, 0, 0};
-    bool rule_8 = call->returned == 3 && call->numbers[1] == 8;
-    if (!trial->self || !call->answered || !(rule_8 || call->returned <= 2) || !literal_applies(trial->file)) {
+    uint32_t place[3], rule = call->returned == RULE_BROKEN ? call->numbers[1] : 0;
+    bool accepted = call->returned < RULE_BROKEN;
+    if (!trial->self || !call->answered || !(accepted || rule >= 7) || !literal_applies(trial->file)) {
         return NULL;
     }
-    trial->tally.literal_idling++;
-    bool broken = literal_idling(trial->file, place);
-    bool same = broken == rule_8 && (!broken || memcmp(place, call->numbers + 2, sizeof place) == 0);
-    return same ? NULL : "rule 8, read tick by tick, says otherwise";
+    trial->tally.literal_rules[rule]++;
+    bool same = literal_broken(trial->file, place) == rule && (accepted || memcmp(place, call->numbers + 2, sizeof place) == 0);
+    return same ? NULL : "rules 7 to 9, read tick by tick, say otherwise";
 }
 
 static const char *try_check(Trial *trial) {
@@ -143,10 +168,23 @@ static const char *try_check(Trial *trial) {
     call_check(trial->subject, file_of(trial), made->check_answer_length, &trial->subject_call);
     call_check(&the_oracle, file_of(trial), made->check_answer_length, &trial->oracle_call);
     meet(&trial->tally.check, &trial->oracle_call);
-    if (made->permitted && trial->oracle_call.answered && trial->oracle_call.returned > 2) {
+    if (trial->oracle_call.answered) {
+        meet_checked(&trial->tally.apart, trial->file, made->length, trial->oracle_call.numbers);
+    }
+    if (made->permitted && trial->oracle_call.answered && trial->oracle_call.returned >= RULE_BROKEN) {
         return "the run of a server without a fault is not accepted";
     }
-    return first_of(judge_calls(&trial->subject_call, &trial->oracle_call), judge_idling(trial));
+    return first_of(judge_calls(&trial->subject_call, &trial->oracle_call), judge_literally(trial));
+}
+
+/* Which rule a run breaks that is not carried for it. */
+static void meet_not_carried(Trial *trial) {
+    uint8_t answer[CALL_ANSWER_BYTES];
+    const Call *call = &trial->oracle_call;
+    if (call->answered && call->returned == REFUSED && call->numbers[1] == 10) {
+        oracle_check(trial->file, trial->made.length, answer, sizeof answer);
+        trial->tally.not_carried[answer[4] % (RULES + 1)]++;
+    }
 }
 
 static const char *try_carry(Trial *trial) {
@@ -155,6 +193,7 @@ static const char *try_carry(Trial *trial) {
     call_carry(trial->subject, file_of(trial), made->horizon, room, answer_length, &trial->subject_call);
     call_carry(&the_oracle, file_of(trial), made->horizon, room, answer_length, &trial->oracle_call);
     meet(&trial->tally.carry, &trial->oracle_call);
+    meet_not_carried(trial);
     return judge_calls(&trial->subject_call, &trial->oracle_call);
 }
 
@@ -163,10 +202,11 @@ static const char *try_carried_file(Trial *trial) {
     uint8_t carried[MOST_CASE_BYTES];
     Bytes file = {carried, trial->oracle_call.numbers[1]};
     memcpy(carried, slice(&trial->oracle_call.output), file.length);
+    meet_carried(&trial->tally.apart, trial->file, trial->made.length, carried, file.length);
     call_check(trial->subject, file, CALL_ANSWER_BYTES, &trial->subject_call);
     call_check(&the_oracle, file, CALL_ANSWER_BYTES, &trial->oracle_call);
     meet(&trial->tally.carried, &trial->oracle_call);
-    if (trial->oracle_call.returned > 2) {
+    if (trial->oracle_call.returned >= RULE_BROKEN) {
         return "the carried run is not accepted";
     }
     if (trial->self && literal_applies(carried)) {
@@ -214,11 +254,13 @@ static bool try_long_case(Trial *trial, uint64_t number) {
 static void print_tally(const Trial *trial) {
     print_met("check", &trial->tally.check);
     print_met("carry", &trial->tally.carry);
+    print_counts("refused with 10 for rule", trial->tally.not_carried, 1, RULES);
     printf("carried files\n");
     print_counts("answers", trial->tally.carried.answers, 0, 3);
     if (trial->self) {
-        printf("read tick by tick: rule 8 %" PRIu64 ", carried files %" PRIu64 "\n", trial->tally.literal_idling,
-               trial->tally.literal_carried);
+        const uint64_t *rules = trial->tally.literal_rules;
+        printf("read tick by tick\n  accepted %" PRIu64 ", carried files %" PRIu64 "\n", rules[0], trial->tally.literal_carried);
+        print_counts("rules", rules, 7, RULES);
     }
 }
 
@@ -253,14 +295,16 @@ static void try_long_cases(Trial *trial, Counted *sum) {
 
 static int try_all(Trial *trial, uint64_t count) {
     Counted sum = try_worked_runs(trial->subject);
+    add(&sum, try_following_runs(trial->subject));
     add(&sum, try_handmade_tables(trial->subject));
     for (uint64_t number = 0; number < count; number++) {
         count_case(&sum, try_case(trial, number));
     }
     print_tally(trial);
+    uint64_t never = tell_apart(&trial->tally.apart);
     try_long_cases(trial, &sum);
     if (count >= ENOUGH_CASES) {
-        sum.failed += never_met_at_all(&trial->tally);
+        sum.failed += never + never_met_at_all(&trial->tally, count) + (trial->self ? never_read(&trial->tally) : 0);
     }
     const Asked asked = {trial->subject, &the_oracle, trial->self, trial->seed, trial->path};
     add(&sum, try_tables(&asked, count, count >= ENOUGH_CASES));

@@ -37,6 +37,31 @@ bool literal_applies(const uint8_t *file) {
     return true;
 }
 
+static uint64_t due(const uint8_t *file, uint32_t k) {
+    uint32_t task = of_record(file, k, TASK);
+    return ((uint64_t)of_record(file, k, JOB) + 1) * of_task(file, task, PERIOD) + of_task(file, task, OFFSET);
+}
+
+/* ---- rules 7 to 9 ---- */
+
+/* Whether x is the preceding job of the task of k. */
+static bool precedes(const uint8_t *file, uint32_t x, uint32_t k) {
+    return of_record(file, x, TASK) == of_record(file, k, TASK) && (uint64_t)of_record(file, x, JOB) + 1 == of_record(file, k, JOB);
+}
+
+/* Whether k is released by the instant, and the preceding job of its task has ended by then, if there is one. */
+static bool ready(const uint8_t *file, uint32_t k, uint32_t instant) {
+    if (of_record(file, k, RELEASE) > instant) {
+        return false;
+    }
+    for (uint32_t x = 0; x < record_count(file); x++) {
+        if (precedes(file, x, k) && of_record(file, x, END) > instant) {
+            return false;
+        }
+    }
+    return true;
+}
+
 static bool busy(const uint8_t *file, uint32_t core, uint32_t instant) {
     for (uint32_t k = 0; k < record_count(file); k++) {
         if (of_record(file, k, CORE) == core && of_record(file, k, START) <= instant && instant < of_record(file, k, END)) {
@@ -46,28 +71,64 @@ static bool busy(const uint8_t *file, uint32_t core, uint32_t instant) {
     return false;
 }
 
-bool literal_idling(const uint8_t *file, uint32_t place[3]) {
+/* The least idle core at the instant, or 0. */
+static uint32_t idle_core(const uint8_t *file, uint32_t instant) {
+    for (uint32_t core = 1; core <= number(file, CORES); core++) {
+        if (!busy(file, core, instant)) {
+            return core;
+        }
+    }
+    return 0;
+}
+
+/* a starts strictly before b, its deadline is the later one, and b is ready when it starts. */
+static bool literal_order(const uint8_t *file, uint32_t place[3]) {
     for (uint32_t a = 0; a < record_count(file); a++) {
-        for (uint32_t t = of_record(file, a, RELEASE); t < of_record(file, a, START); t++) {
-            for (uint32_t core = 1; core <= number(file, CORES); core++) {
-                if (!busy(file, core, t)) {
-                    place[0] = a;
-                    place[1] = t;
-                    place[2] = core;
-                    return true;
-                }
+        for (uint32_t b = 0; b < record_count(file); b++) {
+            uint32_t start = of_record(file, a, START);
+            if (start < of_record(file, b, START) && due(file, a) > due(file, b) && ready(file, b, start)) {
+                place[0] = a;
+                place[1] = b;
+                return true;
             }
         }
     }
     return false;
 }
 
-/* ---- carrying: the output is judged as it stands, nothing is scheduled anew ---- */
-
-static uint64_t due(const uint8_t *file, uint32_t k) {
-    uint32_t task = of_record(file, k, TASK);
-    return ((uint64_t)of_record(file, k, JOB) + 1) * of_task(file, task, PERIOD) + of_task(file, task, OFFSET);
+static bool literal_idling(const uint8_t *file, uint32_t place[3]) {
+    for (uint32_t a = 0; a < record_count(file); a++) {
+        for (uint32_t t = of_record(file, a, RELEASE); t < of_record(file, a, START); t++) {
+            uint32_t core = ready(file, a, t) ? idle_core(file, t) : 0;
+            if (core != 0) {
+                place[0] = a;
+                place[1] = t;
+                place[2] = core;
+                return true;
+            }
+        }
+    }
+    return false;
 }
+
+static bool literal_beside(const uint8_t *file, uint32_t place[3]) {
+    for (uint32_t k = 0; k < record_count(file); k++) {
+        for (uint32_t x = 0; x < record_count(file); x++) {
+            if (precedes(file, x, k) && of_record(file, k, START) < of_record(file, x, END)) {
+                place[0] = k;
+                return true;
+            }
+        }
+    }
+    return false;
+}
+
+uint32_t literal_broken(const uint8_t *file, uint32_t place[3]) {
+    place[0] = place[1] = place[2] = 0;
+    return literal_order(file, place) ? 7 : literal_idling(file, place) ? 8 : literal_beside(file, place) ? 9 : 0;
+}
+
+/* ---- carrying: the output is judged as it stands, nothing is scheduled anew ---- */
 
 /* The old record of the same job, or the old record count. */
 static uint32_t old_of(const uint8_t *file, const uint8_t *output, uint32_t k) {
@@ -138,7 +199,7 @@ static bool on_lowest_free_core(const uint8_t *output, uint32_t k) {
 static bool overtakes_none(const uint8_t *output, uint32_t k) {
     uint32_t instant = of_record(output, k, START);
     for (uint32_t x = 0; x < record_count(output); x++) {
-        bool waits = of_record(output, x, RELEASE) <= instant && instant < of_record(output, x, START);
+        bool waits = ready(output, x, instant) && instant < of_record(output, x, START);
         if (waits && chosen_before(output, x, k)) {
             return false;
         }
@@ -146,15 +207,11 @@ static bool overtakes_none(const uint8_t *output, uint32_t k) {
     return true;
 }
 
-/* From the old horizon on no core is idle while a job waits. */
+/* From the old horizon on no core is idle while a job is ready and has not begun. */
 static bool no_core_idles(const uint8_t *file, const uint8_t *output, uint32_t k) {
-    uint32_t from = of_record(output, k, RELEASE);
-    from = from < number(file, HORIZON) ? number(file, HORIZON) : from;
-    for (uint32_t t = from; t < of_record(output, k, START); t++) {
-        for (uint32_t core = 1; core <= number(output, CORES); core++) {
-            if (!busy(output, core, t)) {
-                return false;
-            }
+    for (uint32_t t = number(file, HORIZON); t < of_record(output, k, START); t++) {
+        if (ready(output, k, t) && idle_core(output, t) != 0) {
+            return false;
         }
     }
     return true;
@@ -195,8 +252,8 @@ bool literal_carried(const uint8_t *file, const uint8_t *output) {
     bool right = same_front(file, output) && all_kept(file, output);
     for (uint32_t k = 0; right && k < record_count(output); k++) {
         right = kept_as_it_was(file, output, k) ||
-                (begun_from_horizon(file, output, k) && on_lowest_free_core(output, k) && overtakes_none(output, k) &&
-                 no_core_idles(file, output, k));
+                (begun_from_horizon(file, output, k) && ready(output, k, of_record(output, k, START)) &&
+                 on_lowest_free_core(output, k) && overtakes_none(output, k) && no_core_idles(file, output, k));
     }
     return right;
 }

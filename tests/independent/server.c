@@ -132,6 +132,28 @@ void draw_set(Run *run, Shape shape, Chance *chance) {
     }
 }
 
+static void overrun(Task *task, Chance *chance) {
+    uint64_t most = (uint64_t)task->period * between(chance, 1, 3) + 1;
+    task->greatest = between(chance, task->period, most > MOST_TICKS ? MOST_TICKS : (uint32_t)most);
+    task->least = between(chance, one_in(chance, 2) ? 1 : task->greatest / 2 + 1, task->greatest);
+}
+
+void make_overrun(Run *run, Chance *chance) {
+    enum { FEW_JOBS = 60 };
+    uint32_t task = below(chance, run->task_count);
+    run->cores = run->cores > 1 ? run->cores : 2;
+    for (uint32_t i = 0; i < run->task_count; i++) {
+        if (i == task || one_in(chance, 3)) {
+            overrun(&run->tasks[i], chance);
+        }
+    }
+    /* one that has several jobs */
+    uint64_t horizon = nominal_release(run, task, between(chance, 1, 5)) + 1;
+    if (run->horizon < horizon && horizon <= MOST_TICKS && jobs_before(run, (uint32_t)horizon) <= FEW_JOBS) {
+        run->horizon = (uint32_t)horizon;
+    }
+}
+
 /* ---- the server ---- */
 
 typedef struct {
@@ -170,15 +192,32 @@ static uint32_t any_free_core(Server *server, uint32_t instant) {
     return chosen;
 }
 
+/* When the job is ready, as far as the server can know: the end of the one before it is known once that one has begun. */
+static uint32_t ready_from(const Server *server, uint32_t k) {
+    const Record *job = &server->run->records[k];
+    if (job->job == 0) {
+        return job->release;
+    }
+    const Record *before = &server->run->records[k - 1];
+    uint32_t over = server->begun[k - 1] ? before->end : UINT32_MAX;
+    return over > job->release ? over : job->release;
+}
+
+/* How the server slips at an instant. */
+typedef struct {
+    bool blind, beside;
+} Slip;
+
 /* Of the jobs ready at the instant one that is due soonest, any of equal ones; any ready one if the server slips. */
-static Record *due_soonest(Server *server, uint32_t instant, bool blind) {
+static Record *due_soonest(Server *server, uint32_t instant, Slip slip) {
     Run *run = server->run;
     Record *chosen = NULL;
     bool any = slips(server, WRONG_JOB);
     uint32_t seen = 0;
     for (uint32_t k = 0; k < run->record_count; k++) {
         Record *job = &run->records[k];
-        if (server->begun[k] || job->release > instant || (blind && job->release == instant)) {
+        uint32_t from = slip.beside ? job->release : ready_from(server, k);
+        if (server->begun[k] || from > instant || (slip.blind && from == instant)) {
             continue;
         }
         if (chosen != NULL && !any && deadline(run, job) > deadline(run, chosen)) {
@@ -204,29 +243,49 @@ static void start_job(Server *server, Record *job, uint32_t instant, uint32_t co
     server->free_from[core] = job->end + (slips(server, SLOW_CORE) ? between(server->chance, 1, 3) : 0);
 }
 
+/* Whether a released job that is due sooner than this one waits for the one before it. */
+static bool passes_by(const Server *server, const Record *job, uint32_t instant) {
+    const Run *run = server->run;
+    for (uint32_t k = 0; k < run->record_count; k++) {
+        const Record *other = &run->records[k];
+        bool waits = !server->begun[k] && other->release <= instant && ready_from(server, k) > instant;
+        if (waits && deadline(run, other) < deadline(run, job)) {
+            return true;
+        }
+    }
+    return false;
+}
+
 /* Starts what it can at the instant. Says whether it slipped, so that it must look again at the next tick. */
 static bool serve_instant(Server *server, uint32_t instant) {
     uint32_t core;
     Record *job;
-    bool blind = slips(server, BLIND_TO_NEW);
-    while ((core = any_free_core(server, instant)) != 0 && (job = due_soonest(server, instant, blind)) != NULL) {
-        if (slips(server, LAZY)) {
+    Slip slip = {.blind = slips(server, BLIND_TO_NEW)};
+    slip.beside = slips(server, BESIDE_ITSELF);
+    while ((core = any_free_core(server, instant)) != 0 && (job = due_soonest(server, instant, slip)) != NULL) {
+        if (slips(server, LAZY) || (slips(server, WAITS_BEHIND) && passes_by(server, job, instant))) {
             return true;
         }
         start_job(server, job, instant, core);
     }
-    return blind;
+    return slip.blind;
 }
 
+static uint32_t sooner_after(uint32_t instant, uint32_t t, uint32_t next) {
+    return t > instant && t < next ? t : next;
+}
+
+/* A core falls free, a job is released, or one that is released gets ready: a core may rest longer than its job ran. */
 static uint32_t next_instant(const Server *server, uint32_t instant) {
     uint32_t next = UINT32_MAX;
     for (uint32_t core = 1; core <= server->run->cores; core++) {
-        uint32_t t = server->free_from[core];
-        next = t > instant && t < next ? t : next;
+        next = sooner_after(instant, server->free_from[core], next);
     }
     for (uint32_t k = 0; k < server->run->record_count; k++) {
-        uint32_t t = server->run->records[k].release;
-        next = !server->begun[k] && t > instant && t < next ? t : next;
+        if (!server->begun[k]) {
+            next = sooner_after(instant, server->run->records[k].release, next);
+            next = sooner_after(instant, ready_from(server, k), next);
+        }
     }
     return next == UINT32_MAX ? instant + 1 : next;
 }

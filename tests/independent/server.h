@@ -19,10 +19,12 @@ typedef struct {
 
 typedef enum {
     NO_FAULT,
-    WRONG_JOB,    /* takes a ready job that is not due soonest */
-    BLIND_TO_NEW, /* counts a job released at t as not ready at t */
-    LAZY,         /* starts nothing for a while though it could */
-    SLOW_CORE,    /* a core rests after a record */
+    WRONG_JOB,     /* takes a ready job that is not due soonest */
+    BLIND_TO_NEW,  /* counts a job that gets ready at t, by its release or by the end of the one before, as not ready at t */
+    LAZY,          /* starts nothing for a while though it could */
+    SLOW_CORE,     /* a core rests after a record */
+    WAITS_BEHIND,  /* starts nothing while a released job that is due sooner waits for the one before it */
+    BESIDE_ITSELF, /* starts a released job though the one before it has not ended */
     FAULTS
 } Fault;
 
@@ -35,6 +37,8 @@ uint64_t jobs_before(const Run *run, uint32_t horizon);
 /* The greatest horizon before which no more than so many jobs exist. */
 uint32_t greatest_horizon(const Run *run, uint32_t most_jobs);
 void draw_set(Run *run, Shape shape, Chance *chance);
+/* Makes some task of the set take longer than its period, on several cores, so that its jobs wait for the ones before them. */
+void make_overrun(Run *run, Chance *chance);
 void serve(Run *run, Fault fault, Chance *chance);
 
 #endif

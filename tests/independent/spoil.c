@@ -6,6 +6,30 @@ static Record *any_record(Run *run, Chance *chance) {
     return &run->records[below(chance, run->record_count)];
 }
 
+/* The record of the job before, or NULL. The run is a server's, so that it stands just before. */
+static Record *record_before(Record *record) {
+    return record->job > 0 ? record - 1 : NULL;
+}
+
+/* Whether the job is ready at the instant. */
+static bool ready_by(Record *record, uint32_t instant) {
+    const Record *before = record_before(record);
+    return record->release <= instant && (before == NULL || before->end <= instant);
+}
+
+/* One that started as the one before it ended, which was after its release; any record if none is met soon. */
+static Record *record_that_followed(Run *run, Chance *chance) {
+    Record *record = any_record(run, chance);
+    for (uint32_t tries = 0; tries < TRIES; tries++) {
+        const Record *before = record_before(record);
+        if (before != NULL && record->release < before->end && before->end == record->start) {
+            break;
+        }
+        record = any_record(run, chance);
+    }
+    return record;
+}
+
 static uint32_t neighbour(uint32_t number, Chance *chance) {
     return one_in(chance, 2) ? number + 1 : number - 1;
 }
@@ -188,14 +212,19 @@ static void spoil_overlap(Run *run, Chance *chance) {
 
 /* ---- rule 7 ---- */
 
-/* b was released only after a, which is due later, had started: now it is released as a starts, if its jitter allows. */
-static bool release_as_it_starts(Run *run, const Record *a, Record *b, Chance *chance) {
+/* b is overtaken by a, which is due later, and which started when b was not ready. */
+static bool overtaken(const Run *run, const Record *a, Record *b) {
+    return a->start < b->start && deadline(run, a) > deadline(run, b) && !ready_by(b, a->start);
+}
+
+/* b was released only after a had started: now it is released as a starts, if its jitter allows. */
+static bool release_as_it_starts(Run *run, Record *a, Record *b, Chance *chance) {
     uint32_t nominal = (uint32_t)nominal_release(run, b->task, b->job);
-    bool overtaken = a->start < b->start && deadline(run, a) > deadline(run, b) && a->start < b->release && nominal <= a->start;
-    if (overtaken) {
+    bool fits = overtaken(run, a, b) && a->start < b->release && nominal <= a->start;
+    if (fits) {
         b->release = one_in(chance, 4) ? between(chance, nominal, a->start) : a->start;
     }
-    return overtaken;
+    return fits;
 }
 
 static bool takes(const Run *run, const Record *record, uint32_t length) {
@@ -203,10 +232,24 @@ static bool takes(const Run *run, const Record *record, uint32_t length) {
     return task->least <= length && length <= task->greatest;
 }
 
+/* b was released and waited for the one before it, which ran on as a started: now that one ends as a starts, or just after, where
+   the order is still right. */
+static bool end_as_it_starts(Run *run, Record *a, Record *b, Chance *chance) {
+    Record *before = record_before(b);
+    uint32_t end = a->start + one_in(chance, 4);
+    bool fits = overtaken(run, a, b) && b->release <= a->start && before != NULL && before->start < end && end < before->end &&
+                takes(run, before, end - before->start);
+    if (fits) {
+        before->end = end;
+    }
+    return fits;
+}
+
 /* b was ready when a, due earlier, was started: now b takes the place of a. */
-static bool exchange(Run *run, Record *a, Record *b) {
+static bool exchange(Run *run, Record *a, Record *b, Chance *chance) {
+    (void)chance;
     Record was = *a;
-    bool fits = a->start < b->start && deadline(run, a) < deadline(run, b) && b->release <= a->start &&
+    bool fits = a->start < b->start && deadline(run, a) < deadline(run, b) && ready_by(b, a->start) &&
                 takes(run, a, b->end - b->start) && takes(run, b, a->end - a->start);
     if (fits) {
         a->start = b->start, a->end = b->end, a->core = b->core;
@@ -216,10 +259,14 @@ static bool exchange(Run *run, Record *a, Record *b) {
 }
 
 static void spoil_order(Run *run, Chance *chance) {
-    bool exchanging = one_in(chance, 2);
-    for (uint32_t tries = 0; tries < 4 * TRIES; tries++) {
-        Record *a = any_record(run, chance), *b = any_record(run, chance);
-        if (exchanging ? exchange(run, a, b) : release_as_it_starts(run, a, b, chance)) {
+    enum { WAYS = 3 };
+    static bool (*const ways[WAYS])(Run *, Record *, Record *, Chance *) = {exchange, release_as_it_starts, end_as_it_starts};
+    uint32_t way = below(chance, WAYS);
+    /* where one way is not to be had, the next */
+    for (uint32_t tries = 0; tries < WAYS * 4 * TRIES; tries++) {
+        Record *a = any_record(run, chance);
+        Record *b = any_record(run, chance);
+        if (ways[(way + tries / (4 * TRIES)) % WAYS](run, a, b, chance)) {
             return;
         }
     }
@@ -256,13 +303,28 @@ static void release_earlier(Run *run, Record *record, Chance *chance) {
     }
 }
 
+static void end_earlier(Run *run, Record *record) {
+    record->end -= takes(run, record, record->end - record->start - 1);
+}
+
+/* A job that started as the one before it ended: that one ends earlier, or the job starts later. */
+static void follow_later(Run *run, Chance *chance) {
+    Record *record = record_that_followed(run, chance), *before = record_before(record);
+    if (before != NULL && one_in(chance, 2)) {
+        end_earlier(run, before);
+    } else {
+        start_later(run, record, chance);
+    }
+}
+
 static void idle_somehow(Run *run, Chance *chance) {
     Record *record = any_record(run, chance);
-    switch (below(chance, 5)) {
+    switch (below(chance, 6)) {
     case 0: start_later(run, last_started(run), chance); break;
     case 1: start_later(run, record, chance); break;
     case 2: release_earlier(run, record, chance); break;
-    case 3: record->end -= takes(run, record, record->end - record->start - 1); break;
+    case 3: end_earlier(run, record); break;
+    case 4: follow_later(run, chance); break;
     default: record->core = between(chance, 1, run->cores); break;
     }
 }
@@ -274,11 +336,62 @@ static void spoil_idling(Run *run, Chance *chance) {
     }
 }
 
+/* ---- rule 9 ---- */
+
+/* The job starts before the end of the one before it: a tick, or with it, or at any instant; its end stays, or it runs as long as
+   it did. */
+static void begin_beside(const Run *run, Record *record, const Record *before, Chance *chance) {
+    uint32_t was = record->start, last = before->end - 1, early = before->start;
+    if (last < record->release) {
+        return;
+    }
+    switch (below(chance, 6)) {
+    case 0: record->start = between(chance, record->release, last); break;
+    case 1: record->start = early > record->release ? early : record->release; break;
+    default: record->start = last; break;
+    }
+    if (!takes(run, record, record->end - record->start) || one_in(chance, 4)) {
+        record->end -= was - record->start;
+    }
+    if (one_in(chance, 3)) {
+        record->core = between(chance, 1, run->cores);
+    }
+}
+
+/* The one before runs on, mostly for one tick more than the job left it. */
+static void end_beside(const Run *run, Record *record, Record *before, Chance *chance) {
+    uint32_t end = record->start + (one_in(chance, 3) ? between(chance, 1, 9) : 1);
+    if (before->end < end && takes(run, before, end - before->start)) {
+        before->end = end;
+    }
+}
+
+static void spoil_beside(Run *run, Chance *chance) {
+    bool beginning = !one_in(chance, 3);
+    for (uint32_t tries = 0; tries < TRIES; tries++) {
+        Record *record = record_that_followed(run, chance), *before = record_before(record);
+        if (before == NULL) {
+            continue;
+        }
+        const Record was = *record, before_was = *before;
+        if (beginning) {
+            begin_beside(run, record, before, chance);
+        } else {
+            end_beside(run, record, before, chance);
+        }
+        if (record->start < before->end && !overlaps_some(run, record) && !overlaps_some(run, before)) {
+            return;
+        }
+        *record = was;
+        *before = before_was;
+    }
+}
+
 /* ---- */
 
 void spoil_rule(Run *run, uint32_t rule, Chance *chance) {
-    static void (*const spoil[RULES])(Run *, Chance *) = {spoil_jobs, spoil_release, spoil_start, spoil_length,
-                                                          spoil_core, spoil_overlap, spoil_order, spoil_idling};
+    static void (*const spoil[RULES])(Run *, Chance *) = {spoil_jobs,    spoil_release, spoil_start,  spoil_length, spoil_core,
+                                                          spoil_overlap, spoil_order,   spoil_idling, spoil_beside};
     if (run->record_count > 0) {
         spoil[rule - 1](run, chance);
     } else {

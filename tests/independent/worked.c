@@ -42,15 +42,15 @@ static bool says(const char *name, const uint8_t *answer, uint32_t returned, con
     return right;
 }
 
-static bool check_says(const Subject *subject, const char *name, const uint32_t *numbers, size_t count, const uint32_t *expected) {
+bool check_says(const Subject *subject, const char *name, const uint32_t *numbers, size_t count, const uint32_t *expected) {
     uint8_t file[4 * MOST_NUMBERS], answer[20] = {0};
     size_t length = write_numbers(numbers, count, file);
     return says(name, answer, subject->check(file, length, answer, sizeof answer), expected);
 }
 
 /* The output is expected whole, and nothing of the lent bytes after it may change. */
-static bool carry_says(const Subject *subject, const char *name, const uint32_t *numbers, size_t count, uint32_t horizon,
-                       const uint32_t *expected, const uint32_t *carried, size_t carried_count) {
+bool carry_says(const Subject *subject, const char *name, const uint32_t *numbers, size_t count, uint32_t horizon,
+                const uint32_t *expected, const uint32_t *carried, size_t carried_count) {
     uint8_t file[4 * MOST_NUMBERS], answer[20] = {0}, output[LENT_BYTES], whole[LENT_BYTES];
     memset(output, 0xEE, sizeof output);
     memset(whole, 0xEE, sizeof whole);

@@ -28,7 +28,7 @@ SEED, COUNT = (int(word) for word in sys.argv[1:]) if len(sys.argv) == 3 else (5
 WIDTHS = (80, 240, 1000)
 WILD, LEAST_FINE, TOP = 90, 100, 2**32 - 1
 FINER = "a picture that is finer where there is more room"
-TO_MEET = {FINER, *(f"{kind} {number}" for kind in ("rule", "refusal") for number in range(1, 9))}
+TO_MEET = {FINER, *(f"rule {number}" for number in range(1, 10)), *(f"refusal {number}" for number in range(1, 9))}
 
 
 def cut_off(room):

@@ -10,6 +10,7 @@
 #include <unistd.h>
 
 #include "damage.h"
+#include "entries.h"
 #include "exchange.h"
 #include "oracle.h"
 #include "spoken.h"
@@ -24,7 +25,7 @@ static const struct {
               {"333", 333}, {"999999", 999999}, {"1", 40},    {"0", 40},  {"", 80},     {"8O", 80}, {NULL, 80}};
 enum { WIDTHS = sizeof widths / sizeof widths[0] };
 
-static unsigned long passed, failed, answers[OCTALMURE_WRITTEN + 1], fine, coarse;
+static unsigned long passed, failed, answers[OCTALMURE_WRITTEN + 1], rules[RULES + 1], fine, coarse;
 static unsigned long exported, imported, refused[OCTALMURE_REFUSAL_NOT_RISING + 1]; /* refused: of files that are not, for a table */
 static const char *path;
 static char table_path[4096];
@@ -206,6 +207,7 @@ static void try_file(const Case *made) {
     write_bytes(path, made->file, made->length);
     struct octalmure_answer answer = check_of(made->file, made->length);
     answers[answer.answer]++;
+    rules[answer.answer == OCTALMURE_BROKEN ? answer.code : 0]++;
     try_check(made, answer);
     try_say(made, answer);
     try_tables(made, answer);
@@ -252,13 +254,17 @@ static void try_seed(uint64_t seed, uint64_t count) {
     }
 }
 
-/* How often each answer was met, and each refusal that a table adds: none may be missing. */
+/* How often each answer was met, each rule, and each refusal that a table adds: none may be missing. */
 static void print_met(void) {
     static const uint32_t of_tables[] = {OCTALMURE_REFUSAL_RECORD_COUNT, OCTALMURE_REFUSAL_BAD_LINE, OCTALMURE_REFUSAL_REPEATED_JOB,
                                          OCTALMURE_REFUSAL_NOT_RISING};
     for (size_t i = 0; i <= OCTALMURE_WRITTEN; i++) {
         fprintf(said, "harness: answer %zu: %lu files\n", i, answers[i]);
         failed += answers[i] == 0;
+    }
+    for (size_t i = 1; i <= RULES; i++) {
+        fprintf(said, "harness: rule %zu: %lu files\n", i, rules[i]);
+        failed += rules[i] == 0;
     }
     fprintf(said, "harness: %lu tables exported, %lu imported\n", exported, imported);
     failed += exported == 0 || imported == 0;

@@ -43,6 +43,34 @@ def hold_stop(file, lines):
     hold(numbers(lines[1]) == expected, f"it stops at {expected}, and it says '{lines[1]}'")
 
 
+def hold_order(file, a, start, b, ready):
+    first, second = file.records[a], file.records[b]
+    hold((start, ready) == (first[3], file.ready(b)), f"record {a} starts at {first[3]}, and record {b} is ready at {file.ready(b)}")
+    hold(start < second[3] and file.deadline(first) > file.deadline(second) and ready <= start, f"records {a} and {b} are in order")
+
+
+def hold_idling(file, k, ready, start, instant, core):
+    hold((ready, start) == (file.ready(k), file.records[k][3]), f"record {k} is ready at {file.ready(k)}")
+    hold(ready <= instant < start and 1 <= core <= file.setting[0], f"record {k} does not wait at {instant} for core {core}")
+    hold(not file.busy(core, instant), f"core {core} is not idle at {instant}")
+
+
+def hold_turn(file, k, start, before, end):
+    hold(before == file.before(k), f"before record {k} comes record {file.before(k)}")
+    hold((start, end) == (file.records[k][3], file.records[before][4]) and start < end, f"record {k} starts at its turn")
+
+
+def hold_place(file, lines):
+    """Of a run that breaks rule 7, 8 or 9: the numbers of the place are those of the file, and it is broken there."""
+    rule = re.match(r"Not permitted: rule (\d+) \(", lines[0])
+    hold(rule and len(lines) > 1, f"broken, and it says {lines}")
+    told, count = {7: (hold_order, 4), 8: (hold_idling, 5), 9: (hold_turn, 4)}.get(int(rule[1]), (None, 0))
+    if told:
+        place = numbers(re.sub(NAME, r"\1", lines[1]))
+        hold(len(place) == count, f"it says '{lines[1]}'")
+        told(file, *place)
+
+
 def hold_names(file, lines):
     """Every record is called by its own task and job."""
     for number, task, job in re.findall(NAME, "\n".join(lines)):
@@ -69,5 +97,7 @@ def hold_sentences(file, lines, status):
     hold_names(file, lines)
     if status == 0:
         hold_late(file, lines)
+    if status == 1:
+        hold_place(file, lines)
     if status == 3:
         hold_stop(file, lines)

@@ -54,6 +54,18 @@ class File:
         due = self.deadline(record)
         return max(0, record[4] - due) if due is not None else 0
 
+    def before(self, number):
+        """The number of the record of the preceding job of its task, None where there is none."""
+        task, job = self.records[number][:2]
+        return next((k for k, record in enumerate(self.records) if record[:2] == (task, job - 1)), None)
+
+    def ready(self, number):
+        before, release = self.before(number), self.records[number][2]
+        return release if before is None else max(release, self.records[before][4])
+
+    def busy(self, core, instant):
+        return any(record[5] == core and record[3] <= instant < record[4] for record in self.records)
+
     def drawn(self, record):
         return 1 <= record[5] <= self.setting[0] and record[3] < record[4]
 
