@@ -153,7 +153,7 @@ module _ (ρ : Run) where
   unfoldable pub preceding : ℕ → Option ℕ
   preceding k = jobBefore (rec k .task) (rec k .job)
 
-  -- the end of a record, if there is one
+  -- the end of a record, if there is one; else 0, before which nothing starts
   abbrev pub endIf : Option ℕ → ℕ
   endIf none = 0
   endIf (some p) = rec p .end
