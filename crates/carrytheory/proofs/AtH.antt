@@ -4,7 +4,6 @@ use mathlib.Core.Path.{_≡_, refl, sym, _∙_, ap}
 use mathlib.Core.Logic.{_⊎_, inl, inr, ⊎-elim}
 use mathlib.Core.Bool.{Bool, true, false}
 use mathlib.Core.List.{List, [], _∷_, map}
-use mathlib.Core.Option.{some}
 use native.Mathlib.Omega.{arith}
 use native.Mathlib.Decide.{decLe, decLt}
 use lib.ListN.{length, getD, length-map}
@@ -12,9 +11,9 @@ use lib.Dec.{ltb}
 use Rattle.base.proofs.Test.{says-ltb}
 use Rattle.base.proofs.Searches.{Finds}
 use Rattle.model.specs.declared.record.Record.{Record}
-use Rattle.model.specs.Model.{Run, Job, IsRecord, Exists, rec, task, jobOf, placeOf, existing, arrival, noRecord, preceding, endBefore, ready}
+use Rattle.model.specs.Model.{Run, Job, IsRecord, Exists, rec, task, jobOf, placeOf, existing, arrival, noRecord, ready}
 use Rattle.model.specs.Rules.{rule1, rule2, rule3, rule4, rule5, rule6, rule7, rule8, rule9, Obeys, Jobs, jobsRecorded, Released, Lasted, OnOneCore, Apart, IsCore, Busy}
-use Rattle.model.specs.Carry.{Begun, BegunBefore, ReadyBy, unbegun, keptIf, atH, opening}
+use Rattle.model.specs.Carry.{Begun, ReadyBy, unbegun, keptIf, atH, opening}
 use Rattle.model.proofs.Jobs.{Good}
 use Rattle.carrytheory.proofs.Depends.{same-rank, existing-again}
 use Rattle.carrytheory.proofs.Recorded.{at-map, one-record, record-exists, has-record}

@@ -15,7 +15,6 @@ use Rattle.model.specs.Answers.{BeginsBeforeH, writtenOut}
 use Rattle.model.specs.File.{Bytes, bytesOf, recordNumbers, whole, read, bytes, Part, partOf, recordPart}
 use Rattle.model.specs.Carry.{carried, carry, Source, inRecorded, inCarried, leastOf, beganBefore, shownCarried, shownIf, shownOf, shown}
 use Rattle.model.proofs.Reading.{read-limits}
-use Rattle.carrytheory.proofs.Recorded.{one-record}
 use Rattle.carrytheory.proofs.Preceding.{RecordOf, place-finds, least-is}
 use Rattle.carrytheory.proofs.CarryGates.{carries, carry-passes}
 use Rattle.carrytheory.proofs.Demand3.{carried-jobs, carried-reads, kept}

@@ -1,7 +1,8 @@
 -- When a job is ready: what that depends on, in any run and while it is carried. Assumes nothing.
-use Prim.Native.Nat.{ℕ, zero, suc, _≤_, max}
+use Prim.Native.Nat.{ℕ, zero, suc, _-_, _≤_, max}
 use mathlib.Core.Path.{_≡_, refl, sym, _∙_, ap}
-use mathlib.Core.Bool.{Bool, not, true≢false}
+use mathlib.Core.Logic.{_⊎_, inl, inr, _↔_}
+use mathlib.Core.Bool.{true≢false}
 use mathlib.Core.Option.{Option, none, some}
 use native.Mathlib.Omega.{arith}
 use native.Mathlib.Decide.{decLe}
@@ -10,11 +11,11 @@ use lib.ListN.{length}
 use Rattle.base.proofs.Test.{Says, says-leb, says-eqb, says-and, says-not, says-map, says-same}
 use Rattle.base.proofs.Find.{some≢none}
 use Rattle.model.specs.Model.{Run, IsRecord, rec, jobOf, preceding, endIf, endBefore, ready}
-use Rattle.model.specs.Rules.{Started}
+use Rattle.model.specs.Rules.{Jobs, Started}
 use Rattle.model.specs.Carry.{Begun, BegunBefore, ReadyBy, begunIf, readyBy}
 use Rattle.model.specs.Compute.Places.{inTurn}
 use Rattle.model.proofs.RuleTests.{says-in-turn}
-use Rattle.carrytheory.proofs.Preceding.{preceding-is, same-preceding}
+use Rattle.carrytheory.proofs.Preceding.{preceding-is, first-alone, same-preceding, not-first, record-before}
 
 -- The later of its release and the end of the job before
 -- ------------------------------------------------------
@@ -74,6 +75,39 @@ module _ (σ : Run) where
   -- where every job has begun, a job is ready by each instant from its ready instant on
   pub ready-then : ((p : ℕ) → IsRecord σ p → Begun σ p) → (k t : ℕ) → ready σ k ≤ t → ReadyBy σ k t
   ready-then all k t l = record { begun-before = λ p e. all p (preceding-is σ k p e .range); instant = l }
+
+-- Where rule 1 holds: it is released, and it is its task's first job, or that of the record before has begun and ended.
+module _ (σ : Run) (J : Jobs σ) (k t : ℕ) (h : IsRecord σ k) where
+  abbrev pub ByRecord : Type 0
+  ByRecord = (rec σ k .release ≤ t) × ((rec σ k .job ≡ 0) ⊎ (Begun σ (k - 1) × (rec σ (k - 1) .end ≤ t)))
+
+  before : 1 ≤ rec σ k .job → preceding σ k ≡ some (k - 1)
+  before l = let n = not-first σ J k h l in record-before σ J k (k - 1) h l (omega arith)
+
+  by-record : ReadyBy σ k t → ByRecord
+  by-record R = (omega (arith, release-ready σ k, R .instant), go (decLe 1 (rec σ k .job)))
+    where
+      go : Dec (1 ≤ rec σ k .job) → (rec σ k .job ≡ 0) ⊎ (Begun σ (k - 1) × (rec σ (k - 1) .end ≤ t))
+      go (no f) = inl (omega (arith, f))
+      go (yes l) = inr (R .begun-before (k - 1) (before l), omega (arith, R .instant, ready-after σ k (k - 1) (before l)))
+
+  first-by : rec σ k .release ≤ t → rec σ k .job ≡ 0 → ReadyBy σ k t
+  first-by r z =
+      let e = first-alone σ k z in
+      record { begun-before = nothing-before σ k e; instant = omega (arith, ready-alone σ k e) }
+
+  record-by : ByRecord → ReadyBy σ k t
+  record-by (r, inl z) = first-by r z
+  record-by (r, inr (b, l)) = go (decLe 1 (rec σ k .job))
+    where
+      go : Dec (1 ≤ rec σ k .job) → ReadyBy σ k t
+      go (no f) = first-by r (omega (arith, f))
+      go (yes m) =
+          let e = before m in
+          record { begun-before = begun-before-one σ k (k - 1) e b; instant = omega (arith, ready-after σ k (k - 1) e) }
+
+  pub ready-by-record : ReadyBy σ k t ↔ ByRecord
+  ready-by-record = (by-record, record-by)
 
 -- Before two records the same stands
 -- ----------------------------------

@@ -11,7 +11,7 @@ use lib.ListN.{length}
 use Rattle.base.specs.Find.{first, count}
 use Rattle.base.specs.First.{Number}
 use Rattle.model.specs.declared.task.Task.{Task}
-use Rattle.model.specs.Model.{Run, rec, task, arrival, jobCount, counts, jobsFrom, existing, due, rank, endBefore, ready}
+use Rattle.model.specs.Model.{Run, rec, task, arrival, jobCount, counts, jobsFrom, existing, due, rank, ready}
 use Rattle.model.specs.Rules.{rule1, rule2, rule3, rule4, rule5, rule6, rule7, rule8, rule9, Obeys}
 use Rattle.model.specs.Answers.{Late, LateRecords}
 use Rattle.model.specs.Widen.{WiderTask, Wider, none-left, wider, withTasks}

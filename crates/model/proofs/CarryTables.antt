@@ -66,8 +66,8 @@ abbrev pub tied : List (List Job × Option ℕ)
 tied =
     -- the lower task, though its job is higher
     ((7, 0) ∷ (5, 1) ∷ (6, 0) ∷ [], some 1)
-    -- of one task the lower job
-    ∷ ((5, 3) ∷ (5, 1) ∷ (5, 2) ∷ [], some 1)
+    -- of one task the lower job, where none of them precedes another
+    ∷ ((5, 5) ∷ (5, 1) ∷ (5, 3) ∷ [], some 1)
     ∷ []
 
 pub ties-decided : map (λ row. next (unbegunAll (row .0)) 0) tied ≡ map (λ row. row .1) tied

@@ -8,7 +8,7 @@ use lib.Dec.{leb, ltb, eqb}
 use lib.ListN.{length, set}
 use Rattle.base.specs.Find.{first, found}
 use Rattle.model.specs.declared.record.Record.{Record}
-use Rattle.model.specs.Model.{Run, Job, mostHorizon, mostJobs, totalJobs, arrival, existing, jobOf, placeOf, task, taskOf, rec, rank, preceding, ready}
+use Rattle.model.specs.Model.{Run, Job, mostHorizon, mostJobs, totalJobs, arrival, existing, placeOf, task, taskOf, rec, rank, preceding, ready}
 use Rattle.model.specs.File.{Read, refused, whole, read, bytes, Part, emptyPart, recordPart}
 use Rattle.model.specs.Answers.{Outcome, refusedWith, gateOutcome, writtenOut}
 use Rattle.model.specs.Compute.Places.{size, idleCore}

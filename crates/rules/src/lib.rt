@@ -1,4 +1,4 @@
-// Rules 2 to 5 over columns: the least record that does not do as a rule asks.
+// Rules 2 to 5 and 9 over columns: the least record that does not do as a rule asks.
 use base::Found;
 ghost use mathlib.Core.Path.{_≡_};
 ghost use mathlib.Core.Bool.{not, _&&_};
@@ -13,7 +13,7 @@ ghost use Rattle.rules.specs.Asked.{obeyedBy, obeyedIn};
 pub enum Asks {
     // earliest, release, latest
     Released,
-    // release, start
+    // release, start; of rule 9 ready, start
     Started,
     // start, end, least and greatest time
     Lasted,

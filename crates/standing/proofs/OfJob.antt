@@ -11,7 +11,7 @@ use Rattle.base.proofs.Find.{some≢none}
 use Rattle.base.proofs.Searches.{Finds}
 use Rattle.base.proofs.Test.{says-ltb, says-true, says-false}
 use Rattle.carrytheory.proofs.Preceding.{RecordOf, place-finds, least-is}
-use Rattle.carrytheory.proofs.Recorded.{one-record, record-exists}
+use Rattle.carrytheory.proofs.Recorded.{record-exists}
 use Rattle.model.specs.declared.record.Record.{Record}
 use Rattle.model.specs.declared.task.Task.{Task}
 use Rattle.model.specs.Carry.{unbegun, keptIf, atHOf, atH}

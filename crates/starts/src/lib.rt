@@ -18,7 +18,7 @@ use table::START;
 use table::column;
 use table::put_row;
 ghost use mathlib.Core.Path.{_≡_};
-ghost use Prim.Native.Nat.{ℕ, _+_, _≤_, _<_};
+ghost use Prim.Native.Nat.{ℕ, _+_, _<_};
 ghost use lib.ListN.{length};
 ghost use Rattle.base.specs.Find.{seenTwo};
 ghost use Rattle.model.specs.Carry.{starts, carried};

@@ -1,6 +1,5 @@
 -- The later of the release and the end of the record before, unless it is its task's first job. Assumes nothing.
 use mathlib.Core.Path.{_∙_}
-use native.Mathlib.Omega.{arith}
 use borrow.Author.Needs.{needs}
 use Rattle.times.proofs.TimesOfRecord.{ready-first, ready-later}
 use Rattle.times.proofs.ready_at.Statement.{statement}

@@ -1,7 +1,6 @@
 -- Whose turn it is, by three tests. Assumes nothing.
 use mathlib.Core.Path.{sym}
 use mathlib.Core.Logic.{inl, inr, ⊎-elim}
-use native.Mathlib.Omega.{arith}
 use borrow.Author.Needs.{needs}
 use Rattle.base.proofs.Test.{says-true, says-false}
 use Rattle.starts.proofs.Choosing.{says-turn, past-first}
