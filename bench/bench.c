@@ -157,18 +157,17 @@ static void time_exchange(Bench *bench, Which which, const char *name, uint32_t 
 
 static const uint32_t some_cores[] = {1, 16}, some_records[] = {64, 128, 256, 512};
 
-static void time_permitted(Bench *bench, uint32_t records, uint32_t cores) {
+/* A permitted run: checked, carried to its horizon, and its first half carried to twice that one's. */
+static void time_permitted(Bench *bench, Load load, const char *name, uint32_t records, uint32_t cores) {
     static Case c;
-    permitted_file(records, cores, HALF_BUSY, &c.file);
-    time_check(bench, "in time", records, cores, &c);
-    time_carry(bench, "in time, to H", c.file.horizon, records, cores, &c);
-    permitted_file(records, cores, OVERLOADED, &c.file);
-    time_check(bench, "late", records, cores, &c);
-    time_carry(bench, "late, to H", c.file.horizon, records, cores, &c);
-    half_file(records, cores, HALF_BUSY, &c.file);
-    time_carry(bench, "in time, to 2H", 2 * c.file.horizon, records, cores, &c);
-    half_file(records, cores, OVERLOADED, &c.file);
-    time_carry(bench, "late, to 2H", 2 * c.file.horizon, records, cores, &c);
+    char carried[40];
+    permitted_file(records, cores, load, &c.file);
+    time_check(bench, name, records, cores, &c);
+    snprintf(carried, sizeof carried, "%s, to H", name);
+    time_carry(bench, carried, c.file.horizon, records, cores, &c);
+    half_file(records, cores, load, &c.file);
+    snprintf(carried, sizeof carried, "%s, to 2H", name);
+    time_carry(bench, carried, 2 * c.file.horizon, records, cores, &c);
 }
 
 static void time_rule(Bench *bench, uint32_t records, uint32_t cores, uint32_t rule) {
@@ -192,16 +191,6 @@ static void time_broken(Bench *bench, uint32_t records, uint32_t cores) {
             time_rule(bench, records, cores, rule);
         }
     }
-}
-
-/* Only where there are several cores does a job wait for the one before it and for nothing else. */
-static void time_chains(Bench *bench, uint32_t records, uint32_t cores) {
-    static Case c;
-    permitted_file(records, cores, IN_CHAINS, &c.file);
-    time_check(bench, "in chains", records, cores, &c);
-    time_carry(bench, "in chains, to H", c.file.horizon, records, cores, &c);
-    half_file(records, cores, IN_CHAINS, &c.file);
-    time_carry(bench, "in chains, to 2H", 2 * c.file.horizon, records, cores, &c);
 }
 
 static void time_small(Bench *bench) {
@@ -272,11 +261,13 @@ int main(int argc, char **argv) {
     printf("%-6s %-22s %4s %3s  %-7s %10s %10s %6s\n", "call", "file", "rec.", "N", "answer", "ours ns", "straight", "ratio");
     for (size_t i = 0; i < 2; i++) {
         for (size_t j = 0; j < 4; j++) {
-            time_permitted(&bench, some_records[j], some_cores[i]);
+            time_permitted(&bench, HALF_BUSY, "in time", some_records[j], some_cores[i]);
+            time_permitted(&bench, OVERLOADED, "late", some_records[j], some_cores[i]);
         }
         time_broken(&bench, 512, some_cores[i]);
     }
-    time_chains(&bench, 512, 16);
+    /* only where there are several cores does a job wait for the one before it and for nothing else */
+    time_permitted(&bench, IN_CHAINS, "in chains", 512, 16);
     time_small(&bench);
     time_tables(&bench);
     time_small_tables(&bench);

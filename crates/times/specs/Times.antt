@@ -1,5 +1,5 @@
 -- What the tasks of a run give each of its records: from when on and until when it may be released, how long it may last, when it is due,
--- its rank, and from when on it may start.
+-- its rank; and when it is ready, which the record before has a part in.
 use Prim.Native.Nat.{ℕ, _≤_}
 use lib.ListN.{getD}
 use mathlib.Core.Path.{_≡_}
