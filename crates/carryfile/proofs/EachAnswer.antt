@@ -12,7 +12,7 @@ use Rattle.base.proofs.Test.{says-leb, says-and, says-true}
 use Rattle.model.proofs.Gates.{gate-opens, gate-closes, leaves, leaves-refused}
 use Rattle.carrytheory.proofs.Demand3.{carried-size}
 use Rattle.model.specs.declared.task.Task.{Task}
-use Rattle.model.specs.Answers.{Five, refusal, bytesWritten, refusedWith, Outcome, gateOutcome, writtenOut}
+use Rattle.model.specs.Answers.{refusal, bytesWritten, refusedWith, Outcome, gateOutcome, writtenOut}
 use Rattle.model.specs.Calls.{front}
 use Rattle.model.specs.Carry.{carried, carryRun, carryOf, carry}
 use Rattle.model.specs.Compute.Verdict.{verdict}
@@ -36,12 +36,8 @@ says-refused b H′ output ν i e = leaves-refused output (ap (λ r. carryOf r H
 
 -- What the tests say of a run that is told
 -- ----------------------------------------
-module _ (ρ : Run) {t : Bool} {f : Five} (e : t ≡ leb (f .answer) 2) (v : f ≡ verdict ρ) where
-  accepted : t ≡ leb (verdict ρ .answer) 2
-  accepted = e ∙ ap (λ g. leb (g .answer) 2) v
-
-  pub obeys : not t ≡ false → Obeys ρ
-  obeys n = accepted-exactly-if-obeyed ρ .0 (says-leb (verdict ρ .answer) 2 .sound (sym accepted ∙ not-false _ n))
+pub obeys : (ρ : Run) {t : Bool} → t ≡ leb (verdict ρ .answer) 2 → not t ≡ false → Obeys ρ
+obeys ρ e n = accepted-exactly-if-obeyed ρ .0 (says-leb (verdict ρ .answer) 2 .sound (sym e ∙ not-false _ n))
 
 module _ {b : List ℕ} {h : Head} {ρ : Run} (T : Tells b h ρ) where
   pub writable : {l : List Task} {H′ m : ℕ} (room : ℕ) {s : ℕ} → Leads ρ l → Obeys ρ → Allowed ρ H′ → m ≡ length (existing ρ H′)
@@ -98,8 +94,8 @@ module _ {b : List ℕ} {h : Head} {ρ : Run} (T : Tells b h ρ) (H′ : ℕ) (o
         ∙ gate-opens 9 _ _ _ (says-true (says-and (says-leb (ρ .setting .horizon) H′) (says-leb H′ mostHorizon)) (R .longer, R .most))
         (gate-opens 6 _ _ _ (says-true (says-leb (totalJobs (ρ .tasks) H′) mostJobs) (R .few)) q)
 
-    pub says-10 : {t : Bool} {f : Five} → t ≡ leb (f .answer) 2 → f ≡ verdict ρ → not t ≡ true → Carries b H′ output (refusal 10 0) output
-    says-10 e v n = leaves-refused output (past-6 (gate-closes 10 _ _ (sym (accepted ρ e v) ∙ not-true _ n)))
+    pub says-10 : {t : Bool} → t ≡ leb (verdict ρ .answer) 2 → not t ≡ true → Carries b H′ output (refusal 10 0) output
+    says-10 e n = leaves-refused output (past-6 (gate-closes 10 _ _ (sym e ∙ not-true _ n)))
 
     module _ (O : Obeys ρ) {m : ℕ} (count : m ≡ length (existing ρ H′)) {s : ℕ} (size : s ≡ sizeOf (h .tasks) m) where
       past-10 : {o : Outcome} → gateOutcome 11 (leb (length out) (length output)) (writtenOut out) ≡ o → carry b H′ (length output) ≡ o

@@ -10,7 +10,7 @@ use openfile::open_file;
 use openfile::tally_tasks;
 use runfile::size_of;
 use tasklist::tasks_of;
-use verdict::judge_run;
+use verdict::accepts_run;
 ghost use mathlib.Core.Bool.{_&&_};
 ghost use mathlib.Core.Path.{_≡_};
 ghost use lib.Dec.{leb};
@@ -21,20 +21,6 @@ ghost use Rattle.openfile.specs.Head.{Tells};
 ghost use Rattle.carrytheory.specs.Allowed.{Allowed};
 ghost use Rattle.carryfile.specs.ToldAndWritten.{Carries};
 
-// Whether an answer accepts the run.
-fn accepts(a: Answer) -> bool
-    ensures { λ r. ⌜ r ≡ leb (fiveOf a .answer) 2 ⌝ }
-{
-    match a {
-        Answer::InTime => true,
-        Answer::LateBeforeH(late, record) => true,
-        Answer::LateFromH(late, record) => true,
-        Answer::RuleBroken(rule, x, y, z) => false,
-        Answer::Refused(number, task) => false,
-        Answer::Written(bytes) => false,
-    }
-}
-
 // The carry of a file to a horizon within the limits at which it has m jobs: 10, 11, or it is written.
 fn carry_to(file: &[u8], head: Head, horizon: u32, m: u32, output: &mut [u8]) -> Answer
     requires { ⌜ ((ρ : Run) × Tells (now file) head ρ × Allowed ρ horizon × (m ≡ length (existing ρ horizon))) ⌝ }
@@ -43,7 +29,7 @@ fn carry_to(file: &[u8], head: Head, horizon: u32, m: u32, output: &mut [u8]) ->
 {
     let size = size_of(head.tasks, m);
     let tasks = tasks_of(file, head);
-    let accepted = accepts(judge_run(file, head, tasks));
+    let accepted = accepts_run(file, head, tasks);
     let fits = size <= output.len();
     if !accepted {
         return Answer::Refused(10, 0);

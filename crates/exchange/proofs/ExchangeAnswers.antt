@@ -16,6 +16,7 @@ use Rattle.model.proofs.Reading.{read-limits}
 use Rattle.model.proofs.Refusals.{refused-exactly-when}
 use Rattle.model.proofs.RoundTrip.{length-bytes}
 use Rattle.model.proofs.FiveFit.{FiveFit, refusal-fits}
+use Rattle.model.proofs.RefusedOrGiven.{Outcomes, few-fit}
 use Rattle.sorting.proofs.Sorted.{length-by-key}
 use Rattle.exchange.specs.RecordLine.{header, recordLine, tableOf, mostTable}
 use Rattle.exchange.specs.TextTable.{Taken, RefusesAt, no-header, bad-line, too-many, given-before}
@@ -24,37 +25,6 @@ use Rattle.exchange.specs.Export.{startTimes, byStart, exported, exportF
 use Rattle.exchange.proofs.LineLaws.{length-header, length-line}
 use Rattle.exchange.proofs.ImportedRun.{imported-within}
 use Rattle.exchange.proofs.SaysExactly.{import-says, export-says}
-
--- What is refused writes nothing, and what is written is counted.
--- ---------------------------------------------------------------
-pub data Outcomes (o : Outcome) : Type 0 where
-  refuses : (ν i : ℕ) → o ≡ refusedWith ν i → Outcomes o
-  writes : (out : List ℕ) → o ≡ writtenOut out → Outcomes o
-
-pub nothing-written : {o : Outcome} → Outcomes o → ¬ (o .told .answer ≡ 5) → (o .told .answer ≡ 4) × (o .writes ≡ [])
-unfolding writtenOut
-nothing-written (refuses ν i e) f = (ap (λ p. p .told .answer) e, ap (λ p. p .writes) e)
-nothing-written (writes out e) f = absurd (f (ap (λ p. p .told .answer) e))
-
-pub all-counted : {o : Outcome} → Outcomes o → o .told .answer ≡ 5 → o .told .code ≡ length (o .writes)
-unfolding writtenOut
-all-counted {o} (refuses ν i e) five = absurd (omega (arith, five, ap (λ p. p .told .answer) e))
-all-counted {o} (writes out e) five = ap (λ p. p .told .code) e ∙ ap (λ p. length (p .writes)) (sym e)
-
--- a refusal is told exactly where it is the outcome
-pub refused-outcome : {o : Outcome} → Outcomes o → (ν i : ℕ) → (o .told ≡ refusal ν i) ↔ (o ≡ refusedWith ν i)
-unfolding writtenOut
-refused-outcome {o} K ν i = (to K, λ e. ap (λ p. p .told) e)
-  where
-    to : Outcomes o → o .told ≡ refusal ν i → o ≡ refusedWith ν i
-    to (refuses μ j e) t =
-        let q : refusal μ j ≡ refusal ν i = sym (ap (λ p. p .told) e) ∙ t in
-        e ∙ (λ κ. refusedWith (q κ .code) (q κ .place .x))
-    to (writes out e) t = absurd (omega (arith, ap (λ f. f .answer) (sym t ∙ ap (λ p. p .told) e)))
-
--- five small numbers
-few-fit : (a c x : ℕ) → a ≤ 5 → c ≤ 65535 → x ≤ 65535 → FiveFit (record { answer = a; code = c; place = record { x = x; y = 0; z = 0 } })
-few-fit a c x h k l = record { answer = omega arith; code = omega arith; x = omega arith; y = omega arith; z = omega arith }
 
 -- The table of some records.
 -- --------------------------
@@ -84,14 +54,15 @@ module _ (b T : List ℕ) (room : ℕ) where
   says-import : ImportSays b T room (importTable b T room)
   says-import = import-says b T room (importTable b T room) .0 refl
 
-  pub import-comes : Outcomes (importTable b T room)
+  pub import-comes : Outcomes 5 (λ n. n) (importTable b T room)
+  unfolding writtenOut
   import-comes = go says-import
     where
-      go : {o : Outcome} → ImportSays b T room o → Outcomes o
-      go (ImportSays.file-refused {ν = ν} {i = i} e) = refuses ν i refl
-      go (ImportSays.line-refused {ν = ν} {n = n} e R) = refuses ν n refl
-      go (ImportSays.no-room e W t h) = refuses 11 0 refl
-      go (ImportSays.taken {ρ = ρ} {xs = xs} e W t h) = writes (bytes (imported ρ xs)) refl
+      go : {o : Outcome} → ImportSays b T room o → Outcomes 5 (λ n. n) o
+      go (ImportSays.file-refused {ν = ν} {i = i} e) = Outcomes.refuses ν i refl
+      go (ImportSays.line-refused {ν = ν} {n = n} e R) = Outcomes.refuses ν n refl
+      go (ImportSays.no-room e W t h) = Outcomes.refuses 11 0 refl
+      go (ImportSays.taken {ρ = ρ} {xs = xs} e W t h) = Outcomes.gives refl refl
 
   -- every file and every table
   pub every-import-answered : ImportRow (importTable b T room .told)
@@ -123,14 +94,15 @@ module _ (b : List ℕ) (room : ℕ) where
   says-export : ExportSays b room (exportFile b room)
   says-export = export-says b room (exportFile b room) .0 refl
 
-  pub export-comes : Outcomes (exportFile b room)
+  pub export-comes : Outcomes 5 (λ n. n) (exportFile b room)
+  unfolding writtenOut
   export-comes = go says-export
     where
-      go : {o : Outcome} → ExportSays b room o → Outcomes o
-      go (ExportSays.file-refused {ν = ν} {i = i} e) = refuses ν i refl
-      go (ExportSays.not-rising e f) = refuses 14 0 refl
-      go (ExportSays.no-room e R h) = refuses 11 0 refl
-      go (ExportSays.told {ρ = ρ} e R h) = writes (exported ρ) refl
+      go : {o : Outcome} → ExportSays b room o → Outcomes 5 (λ n. n) o
+      go (ExportSays.file-refused {ν = ν} {i = i} e) = Outcomes.refuses ν i refl
+      go (ExportSays.not-rising e f) = Outcomes.refuses 14 0 refl
+      go (ExportSays.no-room e R h) = Outcomes.refuses 11 0 refl
+      go (ExportSays.told {ρ = ρ} e R h) = Outcomes.gives refl refl
 
   pub every-export-answered : ExportRow (exportFile b room .told)
   unfolding writtenOut

@@ -15,6 +15,7 @@ pub mod Demand1
 pub mod Calls
 pub mod Gates
 pub mod FiveFit
+pub mod RefusedOrGiven
 pub mod Demand2
 pub mod Worked
 pub mod FourReadings

@@ -4,7 +4,7 @@ use Prim.Native.Nat.{ℕ, zero, suc}
 use mathlib.Core.Path.{_≡_, refl, sym, _∙_}
 use Rattle.base.proofs.Once.{Once, told-apart}
 use Rattle.model.specs.declared.answer.Answer.{Answer}
-use Rattle.model.specs.declared.answer.Answer.the-variants.{InTime, LateBeforeH, LateFromH, RuleBroken, Refused, Written}
+use Rattle.model.specs.declared.answer.Answer.the-variants.{InTime, LateBeforeH, LateFromH, RuleBroken, Refused, Written, Chain}
 use Rattle.model.specs.Answers.{Five, fiveOf}
 use Rattle.model.proofs.setting.Setting.in_range.Reads as setting-in-range
 use Rattle.model.proofs.task.Task.in_range.Reads as task-in-range
@@ -34,7 +34,8 @@ named (suc zero) f = LateBeforeH (f .code) (f .place .x)
 named (suc (suc zero)) f = LateFromH (f .code) (f .place .x)
 named (suc (suc (suc zero))) f = RuleBroken (f .code) (f .place .x) (f .place .y) (f .place .z)
 named (suc (suc (suc (suc zero)))) f = Refused (f .code) (f .place .x)
-named (suc (suc (suc (suc (suc n))))) f = Written (f .code)
+named (suc (suc (suc (suc (suc zero))))) f = Written (f .code)
+named (suc (suc (suc (suc (suc (suc n)))))) f = Chain (f .code)
 
 named-five : (a : Answer) → named (fiveOf a .answer) (fiveOf a) ≡ a
 named-five InTime = refl
@@ -43,6 +44,7 @@ named-five (LateFromH n k) = refl
 named-five (RuleBroken ν x y z) = refl
 named-five (Refused ν i) = refl
 named-five (Written n) = refl
+named-five (Chain n) = refl
 
 pub five-once : (a b : Answer) (f : Five) → fiveOf a ≡ f → fiveOf b ≡ f → a ≡ b
 five-once = told-apart fiveOf (λ f. named (f .answer) f) named-five

@@ -61,14 +61,14 @@ digits v h =
 num-shift : (v : ℕ) (l : List ℕ) (i : ℕ) → num (bytes4 v ++ l) (suc (suc (suc (suc i)))) ≡ num l i
 num-shift v l i = simp suc-add
 
-num-at : (vs : List ℕ) → Fits vs → (k : ℕ) → num (bytesOf vs) (4 * k) ≡ getD vs k 0
+pub num-at : (vs : List ℕ) → Fits vs → (k : ℕ) → num (bytesOf vs) (4 * k) ≡ getD vs k 0
 num-at [] F k = refl
 num-at (v ∷ vs) F zero = digits v (F .at 0)
 num-at (v ∷ vs) F (suc k) =
     let e : 4 * suc k ≡ suc (suc (suc (suc (4 * k)))) = omega arith in
     ap (num (bytesOf (v ∷ vs))) e ∙ num-shift v (bytesOf vs) (4 * k) ∙ num-at vs (fits-tail F) k
 
-length-bytesOf : (vs : List ℕ) → length (bytesOf vs) ≡ 4 * length vs
+pub length-bytesOf : (vs : List ℕ) → length (bytesOf vs) ≡ 4 * length vs
 length-bytesOf [] = refl
 length-bytesOf (v ∷ vs) = let e = length-bytesOf vs in omega arith
 

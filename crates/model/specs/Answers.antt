@@ -1,4 +1,4 @@
--- Document 01, "What the checker says".
+-- Document 01, "What the checker says", and document 02, request 4: answer 6.
 use Prim.Native.Nat.{ℕ, zero, suc, _+_, _≤_, _<_}
 use mathlib.Core.Path.{_≡_}
 use mathlib.Core.Logic.{_⊎_}
@@ -7,7 +7,7 @@ use mathlib.Core.List.{List, []}
 use lib.ListN.{length}
 use Rattle.base.specs.First.{First, Number}
 use Rattle.model.specs.declared.answer.Answer.{Answer}
-use Rattle.model.specs.declared.answer.Answer.the-variants.{InTime, LateBeforeH, LateFromH, RuleBroken, Refused, Written}
+use Rattle.model.specs.declared.answer.Answer.the-variants.{InTime, LateBeforeH, LateFromH, RuleBroken, Refused, Written, Chain}
 use Rattle.model.specs.Model.{Run, IsRecord, rec, due}
 use Rattle.model.specs.File.{refused, whole, read}
 use Rattle.model.specs.Rules.{Rule, rule1, rule2, rule3, rule4, rule5, rule6, rule7, rule8, rule9, Holds, Obeys, Place, FirstPlace}
@@ -23,7 +23,7 @@ abbrev pub five : ℕ → ℕ → ℕ → ℕ → ℕ → Five
 five a c x y z = record { answer = a; code = c; place = record { x = x; y = y; z = z } }
 
 -- The table: 0 accepted, no job late; 1 accepted, some late job begins before H; 2 accepted, late jobs exist, none begins before
--- H; 3 a rule is broken; 4 refused; 5 carried, or what a tool added later writes is written.
+-- H; 3 a rule is broken; 4 refused; 5 carried, or what a tool added later writes is written; 6 the chain of causes is written.
 abbrev pub inTime : Five
 inTime = five 0 0 0 0 0
 
@@ -42,6 +42,9 @@ refusal ν i = five 4 ν i 0 0
 abbrev pub bytesWritten : ℕ → Five
 bytesWritten n = five 5 n 0 0 0
 
+abbrev pub chainWritten : ℕ → Five
+chainWritten n = five 6 n 0 0 0
+
 -- An answer of the program is an enum: the paper's five numbers for each of its cases.
 abbrev pub fiveOf : Answer → Five
 fiveOf InTime = inTime
@@ -50,6 +53,7 @@ fiveOf (LateFromH n k) = lateFromH n k
 fiveOf (RuleBroken ν x y z) = ruleBroken ν (record { x = x; y = y; z = z })
 fiveOf (Refused ν i) = refusal ν i
 fiveOf (Written n) = bytesWritten n
+fiveOf (Chain n) = chainWritten n
 
 -- What a tool that writes says, and what it writes to the front of its output: a refusal writes nothing.
 -- ------------------------------------------------------------------------------------------------------

@@ -11,4 +11,6 @@ pub enum Answer {
     Refused(u32, u32),
     // the bytes written
     Written(u32),
+    // the numbers of a chain
+    Chain(u32),
 }

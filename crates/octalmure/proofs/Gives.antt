@@ -1,4 +1,5 @@
--- Of each call some outcome is permitted: what Promise.antt and TextPromise.antt say of calls is not said of nothing. Assumes nothing.
+-- Of each call some outcome is permitted: what Promise.antt, TextPromise.antt and WhyPromise.antt say of calls is not said of nothing.
+-- Assumes nothing.
 use Prim.Native.Nat.{ℕ}
 use mathlib.Core.Path.{refl}
 use mathlib.Core.List.{List, []}
@@ -7,8 +8,10 @@ use Rattle.model.specs.File.{Bytes}
 use Rattle.model.specs.Calls.{checkCall, carryCall}
 use Rattle.exchange.specs.Import.{importCall}
 use Rattle.exchange.specs.Export.{exportCall}
+use Rattle.causes.specs.Why.{whyCall}
 use Rattle.octalmure.proofs.Promise.{Checks, Carries}
 use Rattle.octalmure.proofs.TextPromise.{Imports, Exports}
+use Rattle.octalmure.proofs.WhyPromise.{Asks}
 
 -- a slice that is lent, by its contents
 abbrev ref : List ℕ → RefT (List ℕ)
@@ -86,6 +89,27 @@ export-gives b o a B =
         back = (ref b, (ref (c .output), (ref (c .answer), tt)));
         permitted = (refl, refl, refl);
         file = refl;
+        output = refl;
+        answer = refl;
+        written = refl;
+        left = refl;
+      },
+    )
+
+pub why-gives-some : (b : List ℕ) (k : ℕ) (o a : List ℕ) → Bytes b → (r : ℕ) × (o′ : List ℕ) × (a′ : List ℕ) × Asks b k o a r o′ a′
+why-gives-some b k o a B =
+    let c = whyCall b k o a in (
+      c .returns,
+      c .output,
+      c .answer,
+      record {
+        of-bytes = B;
+        lifetimes = ([], ([], ([], tt)));
+        lent = (ref b, (k, (ref o, (ref a, tt))));
+        back = (ref b, (k, (ref (c .output), (ref (c .answer), tt))));
+        permitted = (refl, refl, refl);
+        file = refl;
+        asked = refl;
         output = refl;
         answer = refl;
         written = refl;

@@ -17,8 +17,8 @@ use Rattle.model.specs.Answers.{Outcome, refusal, refusedWith, writtenOut}
 use Rattle.model.specs.File.{Bytes, bytes, whole, read}
 use Rattle.model.specs.Calls.{answerSize, front, fiveIn, fileIn, OutputCall, outputCall}
 use Rattle.model.specs.Compute.Verdict.{verdict, checkOf, check}
-use Rattle.model.proofs.Calls.{output-short, rest-kept}
-use Rattle.model.proofs.FiveFit.{FiveFit, output-told, short-or-long}
+use Rattle.model.proofs.FiveFit.{FiveFit, output-told}
+use Rattle.model.proofs.RefusedOrGiven.{refused-outcome}
 use Rattle.model.proofs.Reading.{read-limits}
 use Rattle.sorting.specs.Sorted.{SameEntries, Rises}
 use Rattle.exchange.specs.RecordLine.{tableOf}
@@ -26,11 +26,12 @@ use Rattle.exchange.specs.TextTable.{Taken}
 use Rattle.exchange.specs.Import.{JobBefore, imported, importTable, importCall, ImportSays, ImportRow}
 use Rattle.exchange.specs.Export.{byStart, exported, RiseStrictly, exportFile, exportCall, ExportSays, ExportRow}
 use Rattle.exchange.proofs.SaysExactly.{import-says, export-says}
-use Rattle.exchange.proofs.ExchangeAnswers.{Outcomes, nothing-written, all-counted, refused-outcome, import-comes, every-import-answered, import-fits, export-comes, every-export-answered, export-fits}
+use Rattle.exchange.proofs.ExchangeAnswers.{import-comes, every-import-answered, import-fits, export-comes, every-export-answered, export-fits}
 use Rattle.exchange.proofs.ImportedRun.{imported-same, imported-rises, imported-reads}
 use Rattle.exchange.proofs.ExportedLines.{StartsFirst, lines-rise, exported-same}
 use Rattle.exchange.proofs.ThereAndBack.{import-of-export}
 use Rattle.octalmure.proofs.Promise.{Checks, says}
+use Rattle.octalmure.proofs.GivenOrKept.{met-short, keeps, long-of, writes}
 use Rattle.octalmure.proofs.import.octalmure_import.Kinds as import-kinds
 use Rattle.octalmure.proofs.import.octalmure_import.Reads as import-contract
 use Rattle.octalmure.proofs.export.octalmure_export.Kinds as export-kinds
@@ -92,31 +93,9 @@ went-five (ExportSays.not-rising e f) five out q = absurd (omega (arith, five))
 went-five (ExportSays.no-room e R h) five out q = absurd (omega (arith, five))
 went-five (ExportSays.told {ρ = ρ} e R h) five out q = record { run = ρ; reads = e; rise = R; table = q }
 
--- What is known of both: they are calls of an outcome.
--- ----------------------------------------------------
-module _ (w : Outcome) (o a : List ℕ) {r : ℕ} {o′ a′ : List ℕ} (e : record { returns = r; output = o′; answer = a′ } ≡ outputCall w o a) where
-  met-short : length a < answerSize → (r ≡ 4) × (o′ ≡ o) × (a′ ≡ a)
-  met-short h = let q = e ∙ output-short w o a h in (ap (λ c. c .returns) q, ap (λ c. c .output) q, ap (λ c. c .answer) q)
-
-  module _ (K : Outcomes w) (F : FiveFit (w .told)) where
-    keeps : ¬ (r ≡ 5) → (r ≡ 4) × (o′ ≡ o)
-    keeps other = ⊎-elim (λ h. h) refused (short-or-long w o a _ e)
-      where
-        refused : answerSize ≤ length a → (r ≡ 4) × (o′ ≡ o)
-        refused long =
-            let (f, n, out, k) = output-told w o a _ e F long in
-            let (four, nothing) = nothing-written K (λ five. other (n ∙ five)) in
-            (n ∙ four, out ∙ ap (λ bytes. front bytes o) nothing)
-
-    long-of : r ≡ 5 → answerSize ≤ length a
-    long-of five = ⊎-elim (λ h. absurd (omega (arith, h .0))) (λ h. h) (short-or-long w o a _ e)
-
-    -- what is written stands at the front of the output, as many bytes as the code says, and those after it keep their values
-    writes : r ≡ 5 → (fileIn o′ a′ ≡ w .writes) × (drop (fiveIn a′ .code) o′ ≡ drop (fiveIn a′ .code) o)
-    writes five =
-        let (f, n, out, k) = output-told w o a _ e F (long-of five) in
-        let size : fiveIn a′ .code ≡ length (w .writes) = ap (λ f. f .code) f ∙ all-counted K (sym n ∙ five) in
-        ((λ κ. take (size κ) (out κ)) ∙ take-append-seam (w .writes) _, (λ κ. drop (size κ) (out κ)) ∙ rest-kept (w .writes) o ∙ (λ κ. drop (sym size κ) o))
+-- what is written is no refusal
+not-four : ¬ (_≡_ {A = ℕ} 5 4)
+not-four e = omega arith
 
 -- Nothing is assumed of the caller.
 -- ---------------------------------
@@ -156,19 +135,19 @@ module _ {b T o a : List ℕ} {r : ℕ} {o′ a′ : List ℕ} (C : Imports b T 
   pub import-refuses-exactly : answerSize ≤ length a → (ν i : ℕ) → (fiveIn a′ ≡ refusal ν i) ↔ ImportSays b T (length o) (refusedWith ν i)
   import-refuses-exactly long ν i =
       let (f, n, out, k) = output-told (importTable b T (length o)) o a _ is-import fit long in
-      let (to, from) = refused-outcome (import-comes b T (length o)) ν i in
+      let (to, from) = refused-outcome not-four (import-comes b T (length o)) ν i in
       let (says-it, is-said) = import-says b T (length o) (refusedWith ν i) in
       (λ e. says-it (to (sym f ∙ e)), λ s. f ∙ from (is-said s))
 
   pub import-writes : r ≡ 5 → (fileIn o′ a′ ≡ importTable b T (length o) .writes) × (drop (fiveIn a′ .code) o′ ≡ drop (fiveIn a′ .code) o)
-  import-writes = writes (importTable b T (length o)) o a is-import (import-comes b T (length o)) fit
+  import-writes = writes (importTable b T (length o)) o a is-import (import-comes b T (length o)) fit not-four
 
   module _ (five : r ≡ 5) where
     -- 5 is answered where the file tells a run, the table is that of records that can be taken, and there is room; the file that is written
     -- is of the run's setting and tasks and of these records.
     pub imported-file : ImportedFrom b T (fileIn o′ a′)
     imported-file =
-        let (f, n, out, k) = output-told (importTable b T (length o)) o a _ is-import fit (long-of (importTable b T (length o)) o a is-import (import-comes b T (length o)) fit five) in
+        let (f, n, out, k) = output-told (importTable b T (length o)) o a _ is-import fit (long-of (importTable b T (length o)) o a is-import (import-comes b T (length o)) fit not-four five) in
         came-five (import-says b T (length o) (importTable b T (length o)) .0 refl) (sym n ∙ five) (fileIn o′ a′) (import-writes five .0)
 
     -- Its records are exactly the lines' records, in rising order of task and job, ..
@@ -212,19 +191,19 @@ module _ {b o a : List ℕ} {r : ℕ} {o′ a′ : List ℕ} (C : Exports b o a 
   pub export-refuses-exactly : answerSize ≤ length a → (ν i : ℕ) → (fiveIn a′ ≡ refusal ν i) ↔ ExportSays b (length o) (refusedWith ν i)
   export-refuses-exactly long ν i =
       let (f, n, out, k) = output-told (exportFile b (length o)) o a _ is-export fits long in
-      let (to, from) = refused-outcome (export-comes b (length o)) ν i in
+      let (to, from) = refused-outcome not-four (export-comes b (length o)) ν i in
       let (says-it, is-said) = export-says b (length o) (refusedWith ν i) in
       (λ e. says-it (to (sym f ∙ e)), λ s. f ∙ from (is-said s))
 
   pub export-writes : r ≡ 5 → (fileIn o′ a′ ≡ exportFile b (length o) .writes) × (drop (fiveIn a′ .code) o′ ≡ drop (fiveIn a′ .code) o)
-  export-writes = writes (exportFile b (length o)) o a is-export (export-comes b (length o)) fits
+  export-writes = writes (exportFile b (length o)) o a is-export (export-comes b (length o)) fits not-four
 
   module _ (five : r ≡ 5) where
     -- 5 is answered where the file tells a run whose records rise strictly by task and job, and there is room; what is written is the table of
     -- its records, ..
     pub exported-table : ExportedFrom b (fileIn o′ a′)
     exported-table =
-        let (f, n, out, k) = output-told (exportFile b (length o)) o a _ is-export fits (long-of (exportFile b (length o)) o a is-export (export-comes b (length o)) fits five) in
+        let (f, n, out, k) = output-told (exportFile b (length o)) o a _ is-export fits (long-of (exportFile b (length o)) o a is-export (export-comes b (length o)) fits not-four five) in
         went-five (export-says b (length o) (exportFile b (length o)) .0 refl) (sym n ∙ five) (fileIn o′ a′) (export-writes five .0)
 
     -- .. each record's line once, by start and then by record place.

@@ -3,8 +3,10 @@ mod carry;
 mod check;
 mod export;
 mod import;
+mod why;
 
 pub use carry::octalmure_carry;
 pub use check::octalmure_check;
 pub use export::octalmure_export;
 pub use import::octalmure_import;
+pub use why::octalmure_why;

@@ -11,6 +11,7 @@ use lib.Seq.{sets-eq, take-at, drop-append-add, drop-drop}
 use Rattle.model.specs.File.{bytes4, bytesOf}
 use Rattle.model.specs.Answers.{Five}
 use Rattle.model.specs.Calls.{front, numbers, written}
+use Rattle.model.proofs.RoundTrip.{length-bytesOf}
 use Rattle.wire.specs.Put.{put}
 
 pub put-sets : (s : List ℕ) (i v : ℕ) → i + 4 ≤ length s
@@ -23,10 +24,6 @@ pub put-shifted : (s : List ℕ) (i v : ℕ) → v < 4294967296 → i + 4 ≤ le
     → set (set (set (set s i (bitAnd v 255)) (i + 1) (bitAnd (v / 256) 255)) (i + 2) (bitAnd (v / 65536) 255)) (i + 3) (v / 16777216) ≡ put s i v
 put-shifted s i v word h =
     rw (and-mask v 8, and-mask (v / 256) 8, and-mask (v / 65536) 8, sym (shr-mod {n = v} 8 24 word)) (put-sets s i v h)
-
-length-bytesOf : (vs : List ℕ) → length (bytesOf vs) ≡ 4 * length vs
-length-bytesOf [] = refl
-length-bytesOf (v ∷ vs) = let e = length-bytesOf vs in omega arith
 
 bytesOf-snoc : (vs : List ℕ) (v : ℕ) → bytesOf (vs ++ (v ∷ [])) ≡ bytesOf vs ++ bytes4 v
 bytesOf-snoc [] v = refl

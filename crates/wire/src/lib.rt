@@ -75,6 +75,13 @@ pub fn numbers_of(a: Answer) -> Numbers
             y: 0,
             z: 0,
         },
+        Answer::Chain(count) => Numbers {
+            answer: 6,
+            code: count,
+            x: 0,
+            y: 0,
+            z: 0,
+        },
     }
 }
 

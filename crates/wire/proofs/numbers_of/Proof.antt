@@ -32,6 +32,10 @@ returns-6 : tie.Need-returns-6
 unfolding numbers
 returns-6 c = sym (ap (λ a. numbers (fiveOf a)) (c .before .a5 .given .1))
 
+returns-7 : tie.Need-returns-7
+unfolding numbers
+returns-7 c = sym (ap (λ a. numbers (fiveOf a)) (c .before .a6 .given .1))
+
 pub numbers-of-spec : {M : Type 1} → statement M
 numbers-of-spec =
     tie.close
@@ -42,9 +46,11 @@ numbers-of-spec =
     (λ c. search needs)
     (λ c. search needs)
     (λ c. search needs)
+    (λ c. search needs)
     returns
     returns-2
     returns-3
     returns-4
     returns-5
-    returns-6)
+    returns-6
+    returns-7)

@@ -3,8 +3,8 @@ use lib.Dec.{leb}
 use Rattle.model.specs.declared.answer.Answer.{Answer}
 use Rattle.model.specs.Answers.{fiveOf}
 use borrow.Author.Needs.{needs}
-use Rattle.carryfile.proofs.file.accepts.Statement.{statement}
-use Rattle.carryfile.proofs.file.accepts.Tie as tie
+use Rattle.verdict.proofs.accepts.accepts.Statement.{statement}
+use Rattle.verdict.proofs.accepts.accepts.Tie as tie
 
 -- the test of an answer, by its case
 test : {a x : Answer} → a ≡ x → leb (fiveOf x .answer) 2 ≡ leb (fiveOf a .answer) 2
@@ -28,10 +28,14 @@ returns-5 c = test (c .before .a4 .given .1)
 returns-6 : tie.Need-returns-6
 returns-6 c = test (c .before .a5 .given .1)
 
+returns-7 : tie.Need-returns-7
+returns-7 c = test (c .before .a6 .given .1)
+
 pub accepts-spec : {M : Type 1} → statement M
 accepts-spec =
     tie.close
     (tie.spec
+    (λ c. search needs)
     (λ c. search needs)
     (λ c. search needs)
     (λ c. search needs)
@@ -43,4 +47,5 @@ accepts-spec =
     returns-3
     returns-4
     returns-5
-    returns-6)
+    returns-6
+    returns-7)

@@ -1,0 +1,5 @@
+pub mod FoundInTable
+pub mod PutChain
+pub mod Rounds
+pub mod ChainFits
+pub mod Once

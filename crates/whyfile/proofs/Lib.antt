@@ -1,0 +1,2 @@
+pub mod EachReason
+pub mod Once
