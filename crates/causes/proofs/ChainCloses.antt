@@ -1,10 +1,9 @@
 -- The chain of a record of an accepted run: it always closes, it is the only one, each link holds, the starts fall, so that no record stands
 -- in it twice, and the record's end is the first job's release and the lengths of all jobs in the chain. Assumes nothing.
 use Prim.Native.Nat.{ℕ, zero, suc, _+_, _≤_, _<_}
-use mathlib.Core.Path.{_≡_, refl, sym, _∙_, ap, subst}
+use mathlib.Core.Path.{_≡_, refl, sym, ap, subst}
 use mathlib.Core.Logic.{_⊎_, inl, inr}
 use mathlib.Core.List.{List, [], _∷_}
-use mathlib.Core.Option.{Option, none, some}
 use native.Mathlib.Omega.{arith}
 use native.Mathlib.Decide.{ℕ-discrete}
 use lib.ListN.{length, getD}
@@ -12,7 +11,7 @@ use Rattle.base.proofs.Searches.{total-number}
 use Rattle.model.specs.Model.{Run, WithinLimits, IsRecord, rec}
 use Rattle.model.specs.Rules.{Obeys, rule3, rule4}
 use Rattle.causes.specs.Cause.{AtRelease, Cause, Chain, firstJob, lengths}
-use Rattle.causes.specs.FoundCause.{causeOf, onwards, chainIn, chainOf}
+use Rattle.causes.specs.FoundCause.{onwards, chainIn, chainOf}
 use Rattle.causes.proofs.Pigeons.{no-more}
 use Rattle.causes.proofs.WhoseEnd.{cause-earlier, cause-waited, has-cause, cause-found, no-cause-found, cause-once}
 

@@ -1,13 +1,12 @@
 -- Whose end a record waited for, in a run within its limits that obeys all rules: a record that did not start at its release has a cause,
 -- and only one; it ended at this start, and it started earlier. Assumes nothing.
-use Prim.Native.Nat.{ℕ, _+_, _-_, _≤_, _<_}
+use Prim.Native.Nat.{ℕ, _-_, _≤_, _<_}
 use mathlib.Core.Path.{_≡_, refl, sym, _∙_, ap}
 use mathlib.Core.Logic.{_⊎_, inl, inr, ⊎-elim}
 use mathlib.Core.Bool.{true, false, false≢true}
 use mathlib.Core.Option.{Option, none, some}
 use native.Mathlib.Omega.{arith}
 use native.Mathlib.Decide.{ℕ-discrete}
-use lib.Dec.{eqb}
 use lib.ListN.{length}
 use Rattle.base.proofs.Find.{some≢none}
 use Rattle.base.proofs.Test.{Says, says-eqb, says-and, says-map, says-true, says-false}

@@ -6,13 +6,13 @@ use mathlib.Core.Logic.{_↔_}
 use mathlib.Core.List.{List}
 use native.Mathlib.Omega.{arith}
 use native.Mathlib.Decide.{decLt}
-use lib.Dec.{leb, ltb}
+use lib.Dec.{leb}
 use lib.ListN.{length}
 use Rattle.base.proofs.Test.{says-leb, says-ltb, says-map, says-true, says-false, decides, Says}
-use Rattle.model.specs.Model.{Run, WithinLimits, IsRecord}
+use Rattle.model.specs.Model.{Run, IsRecord}
 use Rattle.model.specs.Rules.{Obeys}
 use Rattle.model.specs.File.{Bytes, Read, refused, whole, read}
-use Rattle.model.specs.Answers.{Outcome, refusedWith, gateOutcome}
+use Rattle.model.specs.Answers.{Outcome, refusedWith}
 use Rattle.model.specs.Compute.Verdict.{verdict}
 use Rattle.model.proofs.Gates.{gate-opens, gate-closes}
 use Rattle.model.proofs.Demand1.{refused-listed}

@@ -1,16 +1,15 @@
 -- Every import and every export gets one of the listed answers, in numbers of four bytes; what is not written leaves nothing. Assumes that
 -- the file is a list of bytes where numbers are to fit.
-use Prim.Native.Nat.{ℕ, zero, suc, _+_, _*_, _≤_, _<_}
-use mathlib.Core.Path.{_≡_, refl, sym, _∙_, ap, subst}
-use mathlib.Core.Logic.{_↔_}
-use mathlib.Core.List.{List, [], _∷_, _++_, map}
+use Prim.Native.Nat.{ℕ, _+_, _*_, _≤_}
+use mathlib.Core.Path.{_≡_, refl}
+use mathlib.Core.List.{List, [], _∷_, map}
 use native.Mathlib.Omega.{arith}
 use native.Mathlib.Nat.{mul-suc}
 use lib.ListN.{length, length-append, length-map}
 use Rattle.model.specs.declared.record.Record.{Record}
-use Rattle.model.specs.Model.{Run, WithinLimits, mostRecords, rec}
-use Rattle.model.specs.File.{Bytes, refused, whole, read, joined, bytes}
-use Rattle.model.specs.Answers.{Five, Outcome, refusal, refusedWith, bytesWritten, writtenOut}
+use Rattle.model.specs.Model.{Run, rec}
+use Rattle.model.specs.File.{Bytes, whole, read, joined, bytes}
+use Rattle.model.specs.Answers.{Outcome, refusal, writtenOut}
 use Rattle.model.proofs.Demand1.{refused-listed}
 use Rattle.model.proofs.Reading.{read-limits}
 use Rattle.model.proofs.Refusals.{refused-exactly-when}
@@ -19,7 +18,7 @@ use Rattle.model.proofs.FiveFit.{FiveFit, refusal-fits}
 use Rattle.model.proofs.RefusedOrGiven.{Outcomes, few-fit}
 use Rattle.sorting.proofs.Sorted.{length-by-key}
 use Rattle.exchange.specs.RecordLine.{header, recordLine, tableOf, mostTable}
-use Rattle.exchange.specs.TextTable.{Taken, RefusesAt, no-header, bad-line, too-many, given-before}
+use Rattle.exchange.specs.TextTable.{RefusesAt, no-header, bad-line, too-many, given-before}
 use Rattle.exchange.specs.Import.{imported, importTable, ImportSays, ImportRow, import-file, import-bad-line, import-too-many, import-given, import-room, import-written}
 use Rattle.exchange.specs.Export.{startTimes, byStart, exported, exportFile, ExportSays, ExportRow, export-file, export-not-rising, export-room, export-written}
 use Rattle.exchange.proofs.LineLaws.{length-header, length-line}

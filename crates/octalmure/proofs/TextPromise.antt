@@ -1,24 +1,22 @@
 -- What Octalmure promises of a text table: request 1, of what octalmure_import and octalmure_export return and leave. Every statement is over
 -- the calls' own contracts, as in Promise.antt; the words are those of crates/exchange/specs. Assumes nothing.
 use Prim.Native.Nat.{ℕ, _≤_, _<_}
-use mathlib.Core.Path.{_≡_, refl, sym, subst, _∙_, ap}
-use mathlib.Core.Logic.{_↔_, ⊎-elim}
+use mathlib.Core.Path.{_≡_, refl, sym, _∙_, ap}
+use mathlib.Core.Logic.{_↔_}
 use mathlib.Core.List.{List, map}
 use native.Mathlib.Omega.{arith}
-use lib.ListN.{length, take, drop}
-use lib.Seq.{take-append-seam}
+use lib.ListN.{length, drop}
 use denote.Ref.{now}
 use contract.Lifetimes.{Lfts}
 use denote.Triple.Clauses.{AtExit}
 use borrow.Fn.Kinds.{Dens, endedOf}
 use Rattle.model.specs.declared.record.Record.{Record}
-use Rattle.model.specs.Model.{Run, IsRecord, rec}
+use Rattle.model.specs.Model.{Run, rec}
 use Rattle.model.specs.Answers.{Outcome, refusal, refusedWith, writtenOut}
 use Rattle.model.specs.File.{Bytes, bytes, whole, read}
-use Rattle.model.specs.Calls.{answerSize, front, fiveIn, fileIn, OutputCall, outputCall}
+use Rattle.model.specs.Calls.{answerSize, fiveIn, fileIn}
 use Rattle.model.specs.Compute.Verdict.{verdict, checkOf, check}
 use Rattle.model.proofs.FiveFit.{FiveFit, output-told}
-use Rattle.model.proofs.RefusedOrGiven.{refused-outcome}
 use Rattle.model.proofs.Reading.{read-limits}
 use Rattle.sorting.specs.Sorted.{SameEntries, Rises}
 use Rattle.exchange.specs.RecordLine.{tableOf}
@@ -31,7 +29,7 @@ use Rattle.exchange.proofs.ImportedRun.{imported-same, imported-rises, imported
 use Rattle.exchange.proofs.ExportedLines.{StartsFirst, lines-rise, exported-same}
 use Rattle.exchange.proofs.ThereAndBack.{import-of-export}
 use Rattle.octalmure.proofs.Promise.{Checks, says}
-use Rattle.octalmure.proofs.GivenOrKept.{met-short, keeps, long-of, writes}
+use Rattle.octalmure.proofs.GivenOrKept.{met-short, answered, keeps, told-exactly, code-told, writes}
 use Rattle.octalmure.proofs.import.octalmure_import.Kinds as import-kinds
 use Rattle.octalmure.proofs.import.octalmure_import.Reads as import-contract
 use Rattle.octalmure.proofs.export.octalmure_export.Kinds as export-kinds
@@ -123,9 +121,7 @@ module _ {b T o a : List ℕ} {r : ℕ} {o′ a′ : List ℕ} (C : Imports b T 
 
   -- Every table gets one of the listed answers.
   pub import-answers : answerSize ≤ length a → ImportRow (fiveIn a′) × (r ≡ fiveIn a′ .answer) × (drop answerSize a′ ≡ drop answerSize a)
-  import-answers long =
-      let (f, n, out, k) = output-told (importTable b T (length o)) o a _ is-import fit long in
-      (subst ImportRow (sym f) (every-import-answered b T (length o)), n ∙ sym (ap (λ f. f .answer) f), k)
+  import-answers = answered (importTable b T (length o)) o a is-import fit ImportRow (every-import-answered b T (length o))
 
   -- An answer other than 5 is 4, and no byte of the output changes.
   pub import-refused-keeps : ¬ (r ≡ 5) → (r ≡ 4) × (o′ ≡ o)
@@ -133,11 +129,8 @@ module _ {b T o a : List ℕ} {r : ℕ} {o′ a′ : List ℕ} (C : Imports b T 
 
   -- A refusal is given exactly when the request says so of the file, the table and the room.
   pub import-refuses-exactly : answerSize ≤ length a → (ν i : ℕ) → (fiveIn a′ ≡ refusal ν i) ↔ ImportSays b T (length o) (refusedWith ν i)
-  import-refuses-exactly long ν i =
-      let (f, n, out, k) = output-told (importTable b T (length o)) o a _ is-import fit long in
-      let (to, from) = refused-outcome not-four (import-comes b T (length o)) ν i in
-      let (says-it, is-said) = import-says b T (length o) (refusedWith ν i) in
-      (λ e. says-it (to (sym f ∙ e)), λ s. f ∙ from (is-said s))
+  import-refuses-exactly =
+      told-exactly (importTable b T (length o)) o a is-import (import-comes b T (length o)) fit not-four (ImportSays b T (length o)) (import-says b T (length o))
 
   pub import-writes : r ≡ 5 → (fileIn o′ a′ ≡ importTable b T (length o) .writes) × (drop (fiveIn a′ .code) o′ ≡ drop (fiveIn a′ .code) o)
   import-writes = writes (importTable b T (length o)) o a is-import (import-comes b T (length o)) fit not-four
@@ -147,8 +140,8 @@ module _ {b T o a : List ℕ} {r : ℕ} {o′ a′ : List ℕ} (C : Imports b T 
     -- is of the run's setting and tasks and of these records.
     pub imported-file : ImportedFrom b T (fileIn o′ a′)
     imported-file =
-        let (f, n, out, k) = output-told (importTable b T (length o)) o a _ is-import fit (long-of (importTable b T (length o)) o a is-import (import-comes b T (length o)) fit not-four five) in
-        came-five (import-says b T (length o) (importTable b T (length o)) .0 refl) (sym n ∙ five) (fileIn o′ a′) (import-writes five .0)
+        came-five (import-says b T (length o) (importTable b T (length o)) .0 refl)
+        (code-told (importTable b T (length o)) o a is-import (import-comes b T (length o)) fit not-four five .1) (fileIn o′ a′) (import-writes five .0)
 
     -- Its records are exactly the lines' records, in rising order of task and job, ..
     pub imported-lines : let I = imported-file in
@@ -181,19 +174,14 @@ module _ {b o a : List ℕ} {r : ℕ} {o′ a′ : List ℕ} (C : Exports b o a 
   export-met-short = met-short (exportFile b (length o)) o a is-export
 
   pub export-answers : answerSize ≤ length a → ExportRow (fiveIn a′) × (r ≡ fiveIn a′ .answer) × (drop answerSize a′ ≡ drop answerSize a)
-  export-answers long =
-      let (f, n, out, k) = output-told (exportFile b (length o)) o a _ is-export fits long in
-      (subst ExportRow (sym f) (every-export-answered b (length o)), n ∙ sym (ap (λ f. f .answer) f), k)
+  export-answers = answered (exportFile b (length o)) o a is-export fits ExportRow (every-export-answered b (length o))
 
   pub export-refused-keeps : ¬ (r ≡ 5) → (r ≡ 4) × (o′ ≡ o)
   export-refused-keeps = keeps (exportFile b (length o)) o a is-export (export-comes b (length o)) fits
 
   pub export-refuses-exactly : answerSize ≤ length a → (ν i : ℕ) → (fiveIn a′ ≡ refusal ν i) ↔ ExportSays b (length o) (refusedWith ν i)
-  export-refuses-exactly long ν i =
-      let (f, n, out, k) = output-told (exportFile b (length o)) o a _ is-export fits long in
-      let (to, from) = refused-outcome not-four (export-comes b (length o)) ν i in
-      let (says-it, is-said) = export-says b (length o) (refusedWith ν i) in
-      (λ e. says-it (to (sym f ∙ e)), λ s. f ∙ from (is-said s))
+  export-refuses-exactly =
+      told-exactly (exportFile b (length o)) o a is-export (export-comes b (length o)) fits not-four (ExportSays b (length o)) (export-says b (length o))
 
   pub export-writes : r ≡ 5 → (fileIn o′ a′ ≡ exportFile b (length o) .writes) × (drop (fiveIn a′ .code) o′ ≡ drop (fiveIn a′ .code) o)
   export-writes = writes (exportFile b (length o)) o a is-export (export-comes b (length o)) fits not-four
@@ -203,8 +191,8 @@ module _ {b o a : List ℕ} {r : ℕ} {o′ a′ : List ℕ} (C : Exports b o a 
     -- its records, ..
     pub exported-table : ExportedFrom b (fileIn o′ a′)
     exported-table =
-        let (f, n, out, k) = output-told (exportFile b (length o)) o a _ is-export fits (long-of (exportFile b (length o)) o a is-export (export-comes b (length o)) fits not-four five) in
-        went-five (export-says b (length o) (exportFile b (length o)) .0 refl) (sym n ∙ five) (fileIn o′ a′) (export-writes five .0)
+        went-five (export-says b (length o) (exportFile b (length o)) .0 refl)
+        (code-told (exportFile b (length o)) o a is-export (export-comes b (length o)) fits not-four five .1) (fileIn o′ a′) (export-writes five .0)
 
     -- .. each record's line once, by start and then by record place.
     pub exported-lines : let E = exported-table in

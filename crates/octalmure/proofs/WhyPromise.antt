@@ -1,7 +1,7 @@
 -- What Octalmure promises of the question why a block began when it did: request 4, of what octalmure_why returns and leaves. Every statement
 -- is over the call's own contract, as in Promise.antt; the words are those of crates/causes/specs. Assumes nothing.
 use Prim.Native.Nat.{ℕ, suc, _+_, _*_, _≤_, _<_}
-use mathlib.Core.Path.{_≡_, refl, sym, subst, _∙_, ap}
+use mathlib.Core.Path.{_≡_, refl, sym, _∙_, ap}
 use mathlib.Core.Logic.{_↔_}
 use mathlib.Core.List.{List}
 use native.Mathlib.Omega.{arith}
@@ -17,14 +17,13 @@ use Rattle.model.specs.Answers.{Outcome, refusal, refusedWith}
 use Rattle.model.specs.File.{Bytes, FourBytes, whole, read, num, bytesOf}
 use Rattle.model.specs.Calls.{answerSize, fiveIn}
 use Rattle.model.proofs.FiveFit.{FiveFit, output-told}
-use Rattle.model.proofs.RefusedOrGiven.{refused-outcome}
 use Rattle.model.proofs.Reading.{read-limits}
-use Rattle.model.proofs.RoundTrip.{Fits, num-at}
+use Rattle.model.proofs.RoundTrip.{num-at}
 use Rattle.causes.specs.Cause.{AtRelease, Cause, Chain, firstJob, lengths}
 use Rattle.causes.specs.Why.{chainOut, why, WhySays, whyCall, chainBytes, WhyRow}
 use Rattle.causes.proofs.ChainCloses.{begins-with, each-link, first-at-release, closes, chain-once, all-records, starts-fall, none-twice, no-longer, adds-up}
 use Rattle.causes.proofs.WhyAnswers.{why-says, why-comes, every-why-answered, why-fits}
-use Rattle.octalmure.proofs.GivenOrKept.{met-short, keeps, long-of, writes}
+use Rattle.octalmure.proofs.GivenOrKept.{met-short, answered, keeps, told-exactly, code-told, writes}
 use Rattle.octalmure.proofs.why.octalmure_why.Kinds as why-kinds
 use Rattle.octalmure.proofs.why.octalmure_why.Reads as why-contract
 
@@ -86,9 +85,7 @@ module _ {b : List ℕ} {k : ℕ} {o a : List ℕ} {r : ℕ} {o′ a′ : List �
 
   -- Every file and every record number get one of the listed answers.
   pub why-answers : answerSize ≤ length a → WhyRow (fiveIn a′) × (r ≡ fiveIn a′ .answer) × (drop answerSize a′ ≡ drop answerSize a)
-  why-answers long =
-      let (f, n, out, kept) = output-told (why b k (length o)) o a _ is-why fit long in
-      (subst WhyRow (sym f) (every-why-answered b k (length o)), n ∙ sym (ap (λ f. f .answer) f), kept)
+  why-answers = answered (why b k (length o)) o a is-why fit WhyRow (every-why-answered b k (length o))
 
   -- An answer other than 6 is 4, and no byte of the output changes.
   pub why-refused-keeps : ¬ (r ≡ 6) → (r ≡ 4) × (o′ ≡ o)
@@ -96,11 +93,8 @@ module _ {b : List ℕ} {k : ℕ} {o a : List ℕ} {r : ℕ} {o′ a′ : List �
 
   -- A refusal is given exactly when the request says so of the file, the record and the room.
   pub why-refuses-exactly : answerSize ≤ length a → (ν i : ℕ) → (fiveIn a′ ≡ refusal ν i) ↔ WhySays b k (length o) (refusedWith ν i)
-  why-refuses-exactly long ν i =
-      let (f, n, out, kept) = output-told (why b k (length o)) o a _ is-why fit long in
-      let (to, from) = refused-outcome not-four (why-comes b k (length o)) ν i in
-      let (says-it, is-said) = why-says b k (length o) (refusedWith ν i) in
-      (λ e. says-it (to (sym f ∙ e)), λ s. f ∙ from (is-said s))
+  why-refuses-exactly =
+      told-exactly (why b k (length o)) o a is-why (why-comes b k (length o)) fit not-four (WhySays b k (length o)) (why-says b k (length o))
 
   -- Of every record of an accepted run the chain is given where there is room for its numbers; for 512 there always is.
   pub why-gives : answerSize ≤ length a → {ρ : Run} {l : List ℕ} → read b ≡ whole ρ → Obeys ρ → IsRecord ρ k → Chain ρ k l
@@ -124,10 +118,11 @@ module _ {b : List ℕ} {k : ℕ} {o a : List ℕ} {r : ℕ} {o′ a′ : List �
     pub rest-keeps : drop (4 * fiveIn a′ .code) o′ ≡ drop (4 * fiveIn a′ .code) o
     rest-keeps = why-writes .1
 
+    told : (fiveIn a′ .code ≡ why b k (length o) .told .code) × (why b k (length o) .told .answer ≡ 6)
+    told = code-told (why b k (length o)) o a is-why (why-comes b k (length o)) fit not-four six
+
     given : (R : ReasonOf b k (chainBytes o′ a′)) × (why b k (length o) .told .code ≡ length (R .chain))
-    given =
-        let (f, n, out, kept) = output-told (why b k (length o)) o a _ is-why fit (long-of (why b k (length o)) o a is-why (why-comes b k (length o)) fit not-four six) in
-        came-six (why-says b k (length o) (why b k (length o)) .0 refl) (sym n ∙ six) (chainBytes o′ a′) (why-writes .0)
+    given = came-six (why-says b k (length o) (why b k (length o)) .0 refl) (told .1) (chainBytes o′ a′) (why-writes .0)
 
     -- 6 is answered where the run obeys all rules and has this record; what is written is the chain of its causes, ..
     pub reason : ReasonOf b k (chainBytes o′ a′)
@@ -136,9 +131,7 @@ module _ {b : List ℕ} {k : ℕ} {o a : List ℕ} {r : ℕ} {o′ a′ : List �
     -- .. the code counts its numbers, ..
     pub reason-counted : fiveIn a′ .code ≡ length (reason .chain)
     unfolding reason
-    reason-counted =
-        let (f, n, out, kept) = output-told (why b k (length o)) o a _ is-why fit (long-of (why b k (length o)) o a is-why (why-comes b k (length o)) fit not-four six) in
-        ap (λ f. f .code) f ∙ given .1
+    reason-counted = told .0 ∙ given .1
 
     -- .. and a host reads them there, from the record asked about on.
     pub reason-read : (x : ℕ) → num (chainBytes o′ a′) (4 * x) ≡ getD (reason .chain) x 0

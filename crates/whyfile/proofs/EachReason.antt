@@ -1,7 +1,7 @@
 -- What is answered of a file and a record, one law for each answer: the file's own refusals, 10, 20, and then what the chain comes to.
 -- Assumes nothing.
 use Prim.Native.Nat.{ℕ, _<_}
-use mathlib.Core.Path.{_≡_, sym, _∙_, ap, subst}
+use mathlib.Core.Path.{_≡_, sym, _∙_, subst}
 use mathlib.Core.Bool.{Bool, true, false, not}
 use mathlib.Core.List.{List}
 use native.Mathlib.Omega.{arith}
@@ -13,7 +13,7 @@ use Rattle.model.specs.Answers.{Five, refusal}
 use Rattle.model.specs.Calls.{Leaves}
 use Rattle.model.specs.Compute.Verdict.{verdict}
 use Rattle.model.specs.File.{read, refused}
-use Rattle.model.specs.Model.{Run, IsRecord}
+use Rattle.model.specs.Model.{Run}
 use Rattle.model.specs.Rules.{Obeys}
 use Rattle.model.proofs.Gates.{leaves-refused}
 use Rattle.openfile.specs.declared.head.Head.{Head}

@@ -1,11 +1,10 @@
 -- What four stores leave, and what numbers leave that are put one after the other at the front of a slice. Assumes nothing.
-use Prim.Native.Nat.{ℕ, suc, _+_, _*_, _/_, _%_, _≤_, _<_}
+use Prim.Native.Nat.{ℕ, _+_, _*_, _/_, _%_, _≤_, _<_}
 use mathlib.Core.Path.{_≡_, refl, sym, _∙_, ap}
-use mathlib.Core.List.{List, [], _∷_, _++_, append-assoc, append-nil}
+use mathlib.Core.List.{List, [], _∷_, _++_}
 use native.Mathlib.Numerals.{add-one, add-two, add-three}
-use native.Mathlib.Omega.{arith}
 use lib.Bits.{bitAnd, and-mask}
-use lib.ListN.{length, set, take, drop, length-append}
+use lib.ListN.{length, set, drop, length-append}
 use lib.Pow.{shr-mod}
 use lib.Seq.{sets-eq, take-at, drop-append-add, drop-drop}
 use Rattle.model.specs.File.{bytes4, bytesOf}

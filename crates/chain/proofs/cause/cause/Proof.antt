@@ -1,11 +1,6 @@
 -- The job of the record before if that is of its task and ended at this start, else what is found on its core. Assumes nothing.
-use Prim.Native.Nat.{_≤_}
 use mathlib.Core.Path.{_≡_, refl, sym, _∙_}
 use native.Mathlib.Omega.{arith}
-use denote.Ref.{now}
-use Rattle.model.specs.Model.{Run}
-use Rattle.model.specs.Rules.{Jobs}
-use Rattle.table.specs.Table.{Lent, recorded}
 use Rattle.chain.proofs.FoundInTable.{own-before, own-is, core-is, core-tied}
 use borrow.Author.Needs.{needs}
 use Rattle.chain.proofs.cause.cause.Statement.{statement}

@@ -2,10 +2,6 @@
 use Prim.Native.Nat.{_+_, _*_}
 use mathlib.Core.Path.{_≡_}
 use native.Mathlib.Omega.{arith}
-use denote.Ref.{now}
-use Rattle.model.specs.Model.{Run}
-use Rattle.causes.specs.FoundCause.{chainOf}
-use Rattle.chain.specs.ChainTold.{Traced, Told}
 use Rattle.chain.proofs.ChainFits.{its-chain, count-few, says-11, says-6}
 use borrow.Author.Needs.{needs}
 use Rattle.chain.proofs.write.write_chain.Statement.{statement}

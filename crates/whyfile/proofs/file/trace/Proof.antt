@@ -1,7 +1,4 @@
-use denote.Ref.{now}
 use mathlib.Core.Path.{_≡_}
-use Rattle.model.specs.Model.{Run}
-use Rattle.chain.specs.ChainTold.{Traced}
 use borrow.Author.Needs.{needs}
 use Rattle.whyfile.proofs.file.trace.Statement.{statement}
 use Rattle.whyfile.proofs.file.trace.Tie as tie
