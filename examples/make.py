@@ -1,6 +1,7 @@
 #!/usr/bin/env python3
-"""Writes the paper's worked runs, runs in which a job is released before the one before it of its task has ended, and the longest
-run file, as run files beside this script, and the records of each that is not refused as a text table.
+"""Writes the paper's worked runs, runs in which a job is released before the one before it of its task has ended, a desk's run with
+the names of its blocks, and the longest run file, as run files beside this script, and the records of each that is not refused as a
+text table.
 
   make.py [FOLDER]
 """
@@ -59,6 +60,17 @@ RUNS = {
     "turn": (2, 7, IN_TURN, [*LONG_ONES, OTHER]),
     # turn.run carried to 9. Job 2 of task 0 is released at 8 and ready at 12, when job 1 ends; core 2 is idle from 7 on.
     "turned": (2, 9, IN_TURN, [*LONG_ONES, (0, 2, 8, 12, 18, 1), OTHER]),
+    # A correction reaches task 0 at 12, as its jitter permits, when both cores have begun a long block. It is due at 35, sooner than
+    # either, and begins at 38, when the first of the two ends. Job 0 of task 1 is ready at 30 and gets core 2 at 41; its job 1 is
+    # planned for 42 and has to wait for job 0, to 50. These three are late, the last of them from H on.
+    "desk": (
+        2, 45,
+        [(30, 4, 6, 5, 10), (12, 4, 10, 30, 0), (120, 30, 40, 0, 5), (120, 30, 45, 0, 5)],
+        [
+            (0, 0, 12, 38, 43, 1), (0, 1, 35, 43, 48, 1), (1, 0, 30, 41, 50, 2), (1, 1, 42, 50, 57, 2),
+            (2, 0, 0, 0, 38, 1), (3, 0, 2, 2, 41, 2),
+        ],
+    ),
     # 32 tasks with 16 jobs each, released at 32j, two ticks long, on one core: they start one after the other, by job and then by
     # task, half of them from H on. Job j of task i ends at 64j + 2i + 2 and is due at 32j + 32, so it is in time only if j = 0 and
     # i < 16: 496 are late, and record 1 is the first. A carry to its own H starts those from H on in the same order, so it writes
@@ -68,11 +80,16 @@ RUNS = {
     ]),
 }
 
+# what the desk calls its blocks, in the order of the tasks
+NAMES = {"desk": ["Exposure total", "Payment release", "Overnight valuation", "Risk scenarios"]}
+
 # runs that are refused, and so have no table
 REFUSED = {"c8": b"", "c10": run(1, 513, [UNIT], [])}
 
 for name, (*front, records) in RUNS.items():
     (folder / f"{name}.run").write_bytes(run(*front, records))
     (folder / f"{name}.csv").write_bytes(table(records))
+for name, called in NAMES.items():
+    (folder / f"{name}.names").write_text("".join(f"{task},{of_it}\n" for task, of_it in enumerate(called)))
 for name, data in REFUSED.items():
     (folder / f"{name}.run").write_bytes(data)

@@ -1,18 +1,18 @@
 /* octalmure carry FILE HORIZON [-o OUT] */
-#include "horizon.h"
 #include "input.h"
 #include "library.h"
+#include "number.h"
 #include "words.h"
 #include "written.h"
 
 static Status run(const Asked *asked, Output *output) {
-    Horizon horizon;
+    Number horizon;
     Input input;
     uint8_t carried[OCTALMURE_MOST_FILE_BYTES];
     if (read_horizon(asked->given[1], &horizon) != FINE || read_run(asked->given[0], &input) != FINE) {
         return TROUBLE;
     }
-    struct octalmure_answer answer = carry_bytes(input.bytes, input.length, horizon.number, carried);
+    struct octalmure_answer answer = carry_bytes(input.bytes, input.length, horizon.value, carried);
     return give_written(&answer, carried, asked->out, output);
 }
 

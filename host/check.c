@@ -16,7 +16,7 @@ static Status run(const Asked *asked, Output *output) {
 const Word check_word = {
     .name = "check",
     .usage = "FILE",
-    .summary = "is the recorded run one that the rules permit? Prints five numbers",
+    .summary = "do the rules permit the recorded run? Prints five numbers",
     .help = "Checks the run in FILE and prints five numbers on one line: answer, code, and three for the place.\n"
             "  0  accepted, no job late\n"
             "  1  accepted, some late job begins before H; code: how many records are late; place: the\n"

@@ -47,3 +47,7 @@ Status read_run(const char *name, Input *input) {
 Status read_table(const char *name, Input *input) {
     return read_most(name, MOST_TABLE, input);
 }
+
+Status read_text_of_names(const char *name, Input *input) {
+    return read_most(name, MOST_NAMES, input);
+}

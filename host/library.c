@@ -34,12 +34,20 @@ struct octalmure_answer export_bytes(const uint8_t *file, size_t length, uint8_t
     return octalmure_decode(answer);
 }
 
+struct octalmure_answer why_bytes(const uint8_t *file, size_t length, uint32_t record, uint8_t *output) {
+    uint8_t answer[OCTALMURE_ANSWER_BYTES];
+    memset(answer, UNTOLD, sizeof answer);
+    octalmure_guarded_why(file, length, record, output, OCTALMURE_MOST_CHAIN_BYTES, answer, sizeof answer);
+    return octalmure_decode(answer);
+}
+
 Status status_of(const struct octalmure_answer *answer) {
     switch (answer->answer) {
     case OCTALMURE_NONE_LATE:
     case OCTALMURE_LATE_BEFORE_H:
     case OCTALMURE_LATE_FROM_H:
-    case OCTALMURE_WRITTEN: return FINE;
+    case OCTALMURE_WRITTEN:
+    case OCTALMURE_CHAIN: return FINE;
     case OCTALMURE_BROKEN: return BROKEN;
     case OCTALMURE_REFUSED: return REFUSED;
     default: return trouble("the library", "its answer is none of the listed ones");

@@ -13,6 +13,8 @@ struct octalmure_answer carry_bytes(const uint8_t *file, size_t length, uint32_t
 struct octalmure_answer import_bytes(const uint8_t *file, size_t length, const uint8_t *table, size_t table_length, uint8_t *output);
 /* The output has room for every table that is written: OCTALMURE_MOST_TABLE_BYTES. */
 struct octalmure_answer export_bytes(const uint8_t *file, size_t length, uint8_t *output);
+/* The output has room for every chain: OCTALMURE_MOST_CHAIN_BYTES. */
+struct octalmure_answer why_bytes(const uint8_t *file, size_t length, uint32_t record, uint8_t *output);
 
 Status status_of(const struct octalmure_answer *answer);
 /* The report's line: the five numbers in decimal, one space between, and a line feed. */

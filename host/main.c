@@ -19,34 +19,65 @@ static Wanted wrong(const char *what, const char *why) {
     return WRONG;
 }
 
-/* '-o OUT' or '-oOUT', at the place i, which moves on to the last that was taken. */
-static Wanted take_out(const Word *word, int argc, char **argv, int *i, Asked *asked) {
-    const char *out = argv[*i] + 2;
-    if (!word->writes) {
-        return wrong(argv[*i], "this word writes no file, so it takes no -o");
+/* The words of the command line, and the one that is being taken. */
+typedef struct {
+    int count, at;
+    char **words;
+} Line;
+
+/* What an option names: the rest of its own word if there is one, or the next word, which is then taken too. */
+static Wanted take_name(Line *line, const char *option, const char *rest, const char **name) {
+    if (rest == NULL && line->at + 1 == line->count) {
+        return wrong(option, "the name of the file is missing");
     }
-    if (*out == '\0') {
-        *i += 1;
-        if (*i == argc) {
-            return wrong("-o", "the name of the file to write is missing");
-        }
-        out = argv[*i];
+    if (*name != NULL) {
+        return wrong(option, "given twice");
     }
-    if (asked->out != NULL) {
-        return wrong("-o", "given twice");
+    if (rest == NULL) {
+        line->at++;
+        rest = line->words[line->at];
     }
-    asked->out = out;
+    *name = rest;
     return TO_RUN;
 }
 
-static Wanted take_option(const Word *word, int argc, char **argv, int *i, Asked *asked) {
-    if (is_help(argv[*i])) {
+/* '-o OUT' or '-oOUT'. */
+static Wanted take_out(const Word *word, Line *line, Asked *asked) {
+    const char *rest = line->words[line->at] + 2;
+    if (!word->writes) {
+        return wrong(line->words[line->at], "this word writes no file, so it takes no -o");
+    }
+    return take_name(line, "-o", *rest != '\0' ? rest : NULL, &asked->out);
+}
+
+/* '--names NAMES', '--names=NAMES' or '--json'. */
+static Wanted take_explaining(const Word *word, Line *line, Asked *asked) {
+    const char *option = line->words[line->at], *rest = strchr(option, '=');
+    if (!word->explains) {
+        return wrong(option, "this word takes neither --names nor --json; explain does");
+    }
+    if (strcmp(option, "--json") != 0) {
+        return take_name(line, "--names", rest != NULL ? rest + 1 : NULL, &asked->names);
+    }
+    if (asked->json) {
+        return wrong(option, "given twice");
+    }
+    asked->json = true;
+    return TO_RUN;
+}
+
+static Wanted take_option(const Word *word, Line *line, Asked *asked) {
+    const char *option = line->words[line->at];
+    if (is_help(option)) {
         return TO_HELP;
     }
-    if (strncmp(argv[*i], "-o", 2) == 0) {
-        return take_out(word, argc, argv, i, asked);
+    if (strncmp(option, "-o", 2) == 0) {
+        return take_out(word, line, asked);
     }
-    return wrong(argv[*i], "no such option; a name that begins with '-' stands after '--', or as ./NAME");
+    if (strcmp(option, "--json") == 0 || strcmp(option, "--names") == 0 || strncmp(option, "--names=", 8) == 0) {
+        return take_explaining(word, line, asked);
+    }
+    return wrong(option, "no such option; a name that begins with '-' stands after '--', or as ./NAME");
 }
 
 static Wanted take_given(const Word *word, const char *text, Asked *asked) {
@@ -61,14 +92,15 @@ static Wanted take_given(const Word *word, const char *text, Asked *asked) {
 /* What stands behind the word. */
 static Wanted take_apart(const Word *word, int argc, char **argv, Asked *asked) {
     bool options = true;
-    for (int i = 2; i < argc; i++) {
+    for (Line line = {.count = argc, .at = 2, .words = argv}; line.at < argc; line.at++) {
+        const char *text = argv[line.at];
         Wanted wanted = TO_RUN;
-        if (options && strcmp(argv[i], "--") == 0) {
+        if (options && strcmp(text, "--") == 0) {
             options = false;
-        } else if (options && argv[i][0] == '-' && argv[i][1] != '\0') {
-            wanted = take_option(word, argc, argv, &i, asked);
+        } else if (options && text[0] == '-' && text[1] != '\0') {
+            wanted = take_option(word, &line, asked);
         } else {
-            wanted = take_given(word, argv[i], asked);
+            wanted = take_given(word, text, asked);
         }
         if (wanted != TO_RUN) {
             return wanted;

@@ -35,10 +35,14 @@ static Status deliver(const Output *output) {
     return standard ? write_standard(output) : replace(output->place, output->bytes, output->length);
 }
 
-Status close_output(Output *output, Status status) {
+Status gather_output(Output *output) {
     bool whole = !ferror(output->text);
-    if (fclose(output->text) != 0 || !whole) {
-        status = trouble("memory", "there is not enough for what is to be written");
+    return fclose(output->text) == 0 && whole ? FINE : trouble("memory", "there is not enough for what is to be written");
+}
+
+Status close_output(Output *output, Status status) {
+    if (gather_output(output) != FINE) {
+        status = TROUBLE;
     }
     if (status != TROUBLE && deliver(output) != FINE) {
         status = TROUBLE;

@@ -18,6 +18,9 @@ typedef struct {
 void keep_descriptors(void);
 
 Status open_output(Output *output);
+/* Ends the printing: what was printed stands in the bytes, with a zero byte after them, and they are to be freed. TROUBLE once it was
+   said that it is not whole. */
+Status gather_output(Output *output);
 /* Writes what was gathered, unless the status is TROUBLE. Gives that status, or TROUBLE once it was said why it cannot be written. */
 Status close_output(Output *output, Status status);
 

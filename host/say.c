@@ -1,8 +1,8 @@
 /* octalmure say FILE [HORIZON] */
-#include "horizon.h"
 #include "input.h"
 #include "layout.h"
 #include "library.h"
+#include "number.h"
 #include "sentences.h"
 #include "words.h"
 
@@ -13,27 +13,27 @@ static Status say_checked(FILE *out, const Said *of) {
     return status_of(&answer);
 }
 
-static Status say_on(FILE *out, const Layout *recorded, const Horizon *horizon) {
+static Status say_on(FILE *out, const Layout *recorded, const Number *horizon) {
     uint8_t carried[OCTALMURE_MOST_FILE_BYTES];
-    struct octalmure_answer answer = carry_bytes(recorded->bytes, recorded->length, horizon->number, carried);
+    struct octalmure_answer answer = carry_bytes(recorded->bytes, recorded->length, horizon->value, carried);
     say_carried(out, horizon, &answer);
     if (answer.answer != OCTALMURE_CARRIED) {
         return status_of(&answer);
     }
     Layout layout = layout_of(carried, answer.code);
-    Said of = {&layout, true, recorded->setting.horizon};
+    Said of = {&layout, NULL, true, recorded->setting.horizon};
     return say_checked(out, &of);
 }
 
 static Status run(const Asked *asked, Output *output) {
-    Horizon horizon;
+    Number horizon;
     Input input;
     bool on = asked->count > 1;
     if ((on && read_horizon(asked->given[1], &horizon) != FINE) || read_run(asked->given[0], &input) != FINE) {
         return TROUBLE;
     }
     Layout layout = layout_of(input.bytes, input.length);
-    Said of = {&layout, false, layout.setting.horizon};
+    Said of = {&layout, NULL, false, layout.setting.horizon};
     Status status = say_checked(output->text, &of);
     return on && status == FINE ? say_on(output->text, &layout, &horizon) : status;
 }

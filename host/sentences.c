@@ -4,10 +4,9 @@
 
 #include "stops.h"
 
-/* Every record is called by its task and job too: its number is another in a carried run. */
-static void name_record(FILE *out, const Layout *layout, uint32_t number) {
-    struct octalmure_record record = record_of(layout, number);
-    fprintf(out, "record %" PRIu32 " (task %" PRIu32 ", job %" PRIu32 ")", number, record.task, record.job);
+void name_record(FILE *out, const Said *of, uint32_t number) {
+    struct octalmure_record record = record_of(of->layout, number);
+    call_record(out, of->names, number, record.task, record.job);
 }
 
 /* ---- accepted ---- */
@@ -22,8 +21,8 @@ static void say_late_count(FILE *out, const Layout *layout, uint32_t late) {
             layout->record_count == 1 ? "record" : "records", late == 1 ? "is" : "are");
 }
 
-/* Whether lateness stays: only that of a record which begins before the recorded H is sure to. */
-static void say_whether_it_stays(FILE *out, const struct octalmure_record *record, const Said *of) {
+/* Only the lateness of a record which begins before the recorded H is sure to stay. */
+void say_whether_it_stays(FILE *out, const Said *of, const struct octalmure_record *record) {
     bool before = record->start < of->recorded;
     if (of->carried) {
         fprintf(out, before ? "  It began before the recorded H = %" PRIu32 " and stands here as it was recorded.\n"
@@ -38,10 +37,10 @@ static void say_late(FILE *out, const Said *of, uint32_t number) {
     struct octalmure_record record = record_of(of->layout, number);
     uint64_t late = late_by(of->layout, &record);
     fputs("Late: ", out);
-    name_record(out, of->layout, number);
+    name_record(out, of, number);
     fprintf(out, " was due at %" PRIu64 ", began at %" PRIu32 " and ended at %" PRIu32 ": %" PRIu64 " %s late.\n", record.end - late,
             record.start, record.end, late, late == 1 ? "tick" : "ticks");
-    say_whether_it_stays(out, &record, of);
+    say_whether_it_stays(out, of, &record);
 }
 
 static void say_every_late(FILE *out, const Said *of) {
@@ -55,73 +54,75 @@ static void say_every_late(FILE *out, const Said *of) {
 
 /* ---- broken ---- */
 
-static void say_jobs_place(FILE *out, const Layout *layout, uint32_t number) {
+static void say_jobs_place(FILE *out, const Said *of, uint32_t number) {
     fprintf(out, "The records and the existing jobs first differ at number %" PRIu32 ", counted from 0: ", number);
-    if (number < layout->record_count) {
-        struct octalmure_record record = record_of(layout, number);
-        fprintf(out, "the record there is of task %" PRIu32 ", job %" PRIu32 ".\n", record.task, record.job);
+    if (number < of->layout->record_count) {
+        struct octalmure_record record = record_of(of->layout, number);
+        fputs("the record there is of ", out);
+        call_job(out, of->names, record.task, record.job);
+        fputs(".\n", out);
     } else {
         fputs("there the records have ended.\n", out);
     }
 }
 
-static void say_overlap(FILE *out, const Layout *layout, const uint32_t place[3]) {
+static void say_overlap(FILE *out, const Said *of, const uint32_t place[3]) {
     fputs("The first pair that breaks it: ", out);
-    name_record(out, layout, place[0]);
+    name_record(out, of, place[0]);
     fputs(" and ", out);
-    name_record(out, layout, place[1]);
+    name_record(out, of, place[1]);
     fputs(".\n", out);
 }
 
-static void say_order(FILE *out, const Layout *layout, const uint32_t place[3]) {
+static void say_order(FILE *out, const Said *of, const uint32_t place[3]) {
     fputs("The first pair that breaks it: ", out);
-    name_record(out, layout, place[0]);
-    fprintf(out, " started at %" PRIu32 ", before ", record_of(layout, place[0]).start);
-    name_record(out, layout, place[1]);
-    fprintf(out, ", which was ready at %" PRIu32 " and is due sooner.\n", ready_of(layout, place[1]));
+    name_record(out, of, place[0]);
+    fprintf(out, " started at %" PRIu32 ", before ", record_of(of->layout, place[0]).start);
+    name_record(out, of, place[1]);
+    fprintf(out, ", which was ready at %" PRIu32 " and is due sooner.\n", ready_of(of->layout, place[1]));
 }
 
-static void say_record(FILE *out, const Layout *layout, uint32_t number) {
+static void say_record(FILE *out, const Said *of, uint32_t number) {
     fputs("The lowest-numbered record that breaks it is ", out);
-    name_record(out, layout, number);
+    name_record(out, of, number);
     fputs(": ", out);
 }
 
-static void say_numbers(FILE *out, const Layout *layout, uint32_t number) {
-    struct octalmure_record record = record_of(layout, number);
+static void say_numbers(FILE *out, const Said *of, uint32_t number) {
+    struct octalmure_record record = record_of(of->layout, number);
     fprintf(out, "r %" PRIu32 ", s %" PRIu32 ", e %" PRIu32 ", core %" PRIu32 ".\n", record.release, record.start, record.end, record.core);
 }
 
-static void say_idling(FILE *out, const Layout *layout, const uint32_t place[3]) {
-    say_record(out, layout, place[0]);
+static void say_idling(FILE *out, const Said *of, const uint32_t place[3]) {
+    say_record(out, of, place[0]);
     fprintf(out, "it is ready at %" PRIu32 " and starts at %" PRIu32 ", and at instant %" PRIu32 " core %" PRIu32 " is idle.\n",
-            ready_of(layout, place[0]), record_of(layout, place[0]).start, place[1], place[2]);
+            ready_of(of->layout, place[0]), record_of(of->layout, place[0]).start, place[1], place[2]);
 }
 
 /* Rule 9 is judged where rule 1 holds, so the record before is that of the job before. */
-static void say_in_turn(FILE *out, const Layout *layout, uint32_t number) {
-    say_record(out, layout, number);
-    fprintf(out, "it starts at %" PRIu32 ", and the job before it, ", record_of(layout, number).start);
-    name_record(out, layout, number - 1);
-    fprintf(out, ", ends at %" PRIu32 ".\n", record_of(layout, number - 1).end);
+static void say_in_turn(FILE *out, const Said *of, uint32_t number) {
+    say_record(out, of, number);
+    fprintf(out, "it starts at %" PRIu32 ", and the job before it, ", record_of(of->layout, number).start);
+    name_record(out, of, number - 1);
+    fprintf(out, ", ends at %" PRIu32 ".\n", record_of(of->layout, number - 1).end);
 }
 
-static void say_place(FILE *out, const Layout *layout, uint32_t rule, const uint32_t place[3]) {
+static void say_place(FILE *out, const Said *of, uint32_t rule, const uint32_t place[3]) {
     switch (rule) {
-    case OCTALMURE_RULE_JOBS: say_jobs_place(out, layout, place[0]); break;
-    case OCTALMURE_RULE_NO_OVERLAP: say_overlap(out, layout, place); break;
-    case OCTALMURE_RULE_ORDER: say_order(out, layout, place); break;
-    case OCTALMURE_RULE_NO_IDLING: say_idling(out, layout, place); break;
-    case OCTALMURE_RULE_IN_TURN: say_in_turn(out, layout, place[0]); break;
+    case OCTALMURE_RULE_JOBS: say_jobs_place(out, of, place[0]); break;
+    case OCTALMURE_RULE_NO_OVERLAP: say_overlap(out, of, place); break;
+    case OCTALMURE_RULE_ORDER: say_order(out, of, place); break;
+    case OCTALMURE_RULE_NO_IDLING: say_idling(out, of, place); break;
+    case OCTALMURE_RULE_IN_TURN: say_in_turn(out, of, place[0]); break;
     default:
-        say_record(out, layout, place[0]);
-        say_numbers(out, layout, place[0]);
+        say_record(out, of, place[0]);
+        say_numbers(out, of, place[0]);
         break;
     }
 }
 
-static void say_broken_details(FILE *out, const Layout *layout, const struct octalmure_answer *answer) {
-    say_place(out, layout, answer->code, answer->place);
+static void say_broken_details(FILE *out, const Said *of, const struct octalmure_answer *answer) {
+    say_place(out, of, answer->code, answer->place);
     if (answer->code + 1 < OCTALMURE_RULES_END) {
         fprintf(out, "Rules after %" PRIu32 " may be broken too; the lowest-numbered is named.\n", answer->code);
     }
@@ -146,12 +147,12 @@ void say_details(FILE *out, const Said *of, const struct octalmure_answer *answe
     case OCTALMURE_NONE_LATE: break;
     case OCTALMURE_LATE_BEFORE_H:
     case OCTALMURE_LATE_FROM_H: say_every_late(out, of); break;
-    case OCTALMURE_BROKEN: say_broken_details(out, of->layout, answer); break;
-    default: say_where_it_stops(out, of->layout, answer); break;
+    case OCTALMURE_BROKEN: say_broken_details(out, of, answer); break;
+    default: say_where_it_stops(out, of->layout, of->names, answer); break;
     }
 }
 
-void say_carried(FILE *out, const Horizon *horizon, const struct octalmure_answer *answer) {
+void say_carried(FILE *out, const Number *horizon, const struct octalmure_answer *answer) {
     if (answer->answer == OCTALMURE_CARRIED) {
         fprintf(out, "Carried to H = %s, %" PRIu32 " bytes: one way on of those that the rules permit. Of that run:\n", horizon->digits,
                 answer->code);

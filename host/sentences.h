@@ -4,12 +4,14 @@
 
 #include <stdio.h>
 
-#include "horizon.h"
+#include "called.h"
 #include "layout.h"
+#include "number.h"
 
 /* The run of which something is said, and the H of the recorded one: lateness of what begins before that was recorded. */
 typedef struct {
     const Layout *layout;
+    const Names *names; /* NULL: no task has one */
     bool carried;
     uint32_t recorded;
 } Said;
@@ -18,7 +20,10 @@ typedef struct {
    file stops. */
 void say_verdict(FILE *out, const Layout *layout, const struct octalmure_answer *answer);
 void say_details(FILE *out, const Said *of, const struct octalmure_answer *answer);
+/* Parts of these: a record by its number, its task and its job, and of a late one whether its lateness stays. */
+void name_record(FILE *out, const Said *of, uint32_t number);
+void say_whether_it_stays(FILE *out, const Said *of, const struct octalmure_record *record);
 /* What a carry of an accepted run said. */
-void say_carried(FILE *out, const Horizon *horizon, const struct octalmure_answer *answer);
+void say_carried(FILE *out, const Number *horizon, const struct octalmure_answer *answer);
 
 #endif

@@ -28,7 +28,7 @@ static Status run(const Asked *asked, Output *output) {
     show_size(output->text, &input);
     say_verdict(output->text, &layout, &answer);
     if (status != FINE) {
-        say_details(output->text, &(Said){&layout, false, 0}, &answer);
+        say_details(output->text, &(Said){&layout, NULL, false, 0}, &answer);
     }
     print_tables(output->text, &layout, status);
     if (status != REFUSED) {
@@ -41,7 +41,7 @@ static Status run(const Asked *asked, Output *output) {
 const Word show_word = {
     .name = "show",
     .usage = "FILE",
-    .summary = "the setting, the tasks and the records, and a line for each core",
+    .summary = "setting, tasks and records, and a line for each core",
     .help = "Shows what stands in FILE: what the check says of it, the setting, the tasks, and the records with their\n"
             "deadlines, and for an accepted run by how much each is late; then a line for each core, from start to\n"
             "end of its records, as wide as the terminal (COLUMNS, or 80, if there is none). Of a file that is\n"

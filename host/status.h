@@ -11,7 +11,7 @@ typedef enum {
     REFUSED = 3
 } Status;
 
-/* A name may hold bytes that move a terminal's cursor; they are shown as '?'. */
+/* A name may hold control characters, which move a terminal's cursor; each is shown as '?'. In UTF-8 those above 127 have two bytes. */
 void put_visible(FILE *out, const char *text);
 
 /* Says 'octalmure: WHAT: WHY' on standard error; gives TROUBLE. */

@@ -12,9 +12,11 @@ enum { MOST_GIVEN = 2 };
 
 /* What was asked for, behind the word. */
 typedef struct {
-    const char *given[MOST_GIVEN]; /* FILE, and perhaps a horizon or a table */
+    const char *given[MOST_GIVEN]; /* FILE, and perhaps a horizon, a table or a record */
     size_t count;
-    const char *out; /* of '-o OUT'; NULL if there is none */
+    const char *out;   /* of '-o OUT'; NULL if there is none */
+    const char *names; /* of '--names NAMES'; NULL if there is none */
+    bool json;         /* '--json' was given */
 } Asked;
 
 typedef struct {
@@ -24,6 +26,7 @@ typedef struct {
     const char *help;    /* what --help says of it, after its usage */
     size_t least, most;  /* how many it is given */
     bool writes;         /* it takes -o OUT */
+    bool explains;       /* it takes --names NAMES and --json */
     Status (*run)(const Asked *asked, Output *output);
 } Word;
 
@@ -33,7 +36,7 @@ typedef struct {
     "          untouched; '-o -' is standard output\n"
 
 /* In the order in which they are listed. A word to come is a line here, its name in words.c, and its file. */
-extern const Word check_word, carry_word, show_word, say_word, import_word, export_word;
+extern const Word check_word, carry_word, show_word, say_word, why_word, explain_word, import_word, export_word;
 
 /* NULL if there is no such word. */
 const Word *find_word(const char *name);

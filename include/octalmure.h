@@ -1,8 +1,9 @@
-/* Octalmure: checks a recorded run of non-preemptive earliest-deadline-first tasks, carries it to a longer horizon, and takes and
- * gives its records as a text table.
+/* Octalmure: checks a recorded run of non-preemptive earliest-deadline-first tasks, carries it to a longer horizon, takes and gives
+ * its records as a text table, and tells the chain of causes for which a job began when it did.
  *
  * For C11 and C++11 and later, on x86-64 Linux. Link with -loctalmure; pkg-config knows it as "octalmure".
- * The words of this file (run file, record, ready, late, H, the rules, text table) are explained in docs/FORMAT.md of the source.
+ * The words of this file (run file, record, ready, late, H, the rules, text table, chain) are explained in docs/FORMAT.md of the
+ * source.
  *
  * An accepted run without lateness says nothing about other runs of the same tasks.
  */
@@ -12,7 +13,7 @@
 #include <stddef.h>
 #include <stdint.h>
 
-#define OCTALMURE_VERSION "0.4.0"
+#define OCTALMURE_VERSION "0.5.0"
 
 /* One cast for both languages: C++ warns of C's. */
 #ifdef __cplusplus
@@ -30,6 +31,7 @@ extern "C" {
 #define OCTALMURE_MOST_FILE_BYTES 12948  /* the longest run file that is read through; room enough for every one that is written */
 #define OCTALMURE_MOST_TABLE_BYTES 33824 /* the longest text table; room enough for every one that is written */
 #define OCTALMURE_MOST_LINE_BYTES 66     /* the longest line of a table: six numbers of ten digits, five commas, a line feed */
+#define OCTALMURE_MOST_CHAIN_BYTES 2048  /* the longest chain, 512 record numbers of four bytes; room enough for every one */
 #define OCTALMURE_MOST_CORES 16          /* N is 1 to 16 */
 #define OCTALMURE_MOST_TASKS 32          /* a file has 1 to 32 tasks */
 #define OCTALMURE_MOST_JOBS 512          /* all tasks together have at most 512 jobs, and a file or a table at most 512 records */
@@ -56,7 +58,9 @@ enum octalmure_answer_number {
     /* Written: a run that was carried or imported, or a table. Code: how many bytes were written to the output. */
     OCTALMURE_WRITTEN = 5,
     /* The same number, as what a carry answers. */
-    OCTALMURE_CARRIED = 5
+    OCTALMURE_CARRIED = 5,
+    /* The chain of a record. Code: how many record numbers were written to the output. */
+    OCTALMURE_CHAIN = 6
 };
 
 /* Codes of OCTALMURE_BROKEN, each with the numbers of its place. Records are counted from 0. Rules 7 and 8 ask when a job is ready: at
@@ -74,8 +78,9 @@ enum octalmure_rule {
     OCTALMURE_RULES_END            /* no rule: the number after the last one */
 };
 
-/* Codes of OCTALMURE_REFUSED. A file is judged from the front, and the first fault met is the answer. 9 and 10 are for carrying,
-   12 and 13 for an import, 14 for an export, 11 for each of these. */
+/* Codes of OCTALMURE_REFUSED. A file is judged from the front, and the first fault met is the answer. 9 is for carrying, 10 for
+   carrying and for a chain, 12 and 13 for an import, 14 for an export, 20 for a chain, 11 for each of these. 15 to 19 are not
+   used. */
 enum octalmure_refusal {
     OCTALMURE_REFUSAL_CUT_SHORT = 1,      /* the bytes end inside a count or a section */
     OCTALMURE_REFUSAL_SETTING_COUNT = 2,  /* the setting's count is not 2 */
@@ -86,11 +91,12 @@ enum octalmure_refusal {
     OCTALMURE_REFUSAL_RECORD_COUNT = 7,   /* a file's record count above 512, or a 513th record line of a table */
     OCTALMURE_REFUSAL_TRAILING_BYTES = 8, /* bytes after the last section */
     OCTALMURE_REFUSAL_NEW_HORIZON = 9,    /* H' below H or above 1,000,000 */
-    OCTALMURE_REFUSAL_BROKEN_RUN = 10,    /* the run to be carried breaks a rule */
+    OCTALMURE_REFUSAL_BROKEN_RUN = 10,    /* the run breaks a rule */
     OCTALMURE_REFUSAL_SHORT_OUTPUT = 11,  /* the output is too short */
     OCTALMURE_REFUSAL_BAD_LINE = 12,      /* a line that is not as a table's lines are; it is the place */
     OCTALMURE_REFUSAL_REPEATED_JOB = 13,  /* a line with a task and job that an earlier line has given; it is the place */
-    OCTALMURE_REFUSAL_NOT_RISING = 14     /* the records to be exported do not rise strictly by task and job */
+    OCTALMURE_REFUSAL_NOT_RISING = 14,    /* the records to be exported do not rise strictly by task and job */
+    OCTALMURE_REFUSAL_NO_SUCH_RECORD = 20 /* there is no such record */
 };
 
 /* The five numbers. Numbers of the place that are not used are 0. */
@@ -100,7 +106,7 @@ struct octalmure_answer {
     uint32_t place[3];
 };
 
-/* ---- the four calls ---- */
+/* ---- the five calls ---- */
 
 /* What every call keeps to:
  * - It returns the answer number and writes the five numbers into the first 20 bytes of the answer slice. Bytes of the answer slice
@@ -110,7 +116,7 @@ struct octalmure_answer {
  *   their values; a refusal changes no byte of the output.
  *
  * All this is proved, of slices. What no proof can see is whether a pointer and a length from C are one, so it is for the caller of
- * the four plain calls to see to it that
+ * the five plain calls to see to it that
  * - each pointer leads to as many bytes as its length says, at most PTRDIFF_MAX; no pointer is null, even where the length is 0;
  * - the answer slice shares no byte with any other slice, and the output none with the file or the table. File and table may share
  *   bytes: both are only read.
@@ -153,6 +159,18 @@ uint32_t octalmure_import(const uint8_t *file, size_t file_length, const uint8_t
  */
 uint32_t octalmure_export(const uint8_t *file, size_t file_length, uint8_t *output, size_t output_length, uint8_t *answer,
                           size_t answer_length);
+
+/* Tells for a record of an accepted run why its job began when it did: the chain of the jobs whose ends were waited for.
+ * A job that started at its release waited for none and ends the chain. Otherwise the next of the chain is the preceding job of its
+ * task, if that ended at this start, and else the job on the same core that ended at this start.
+ * Told: returns OCTALMURE_CHAIN, and the front of the output is as many record numbers as the code says, four bytes each, low byte
+ *   first: the record asked about, the one whose end it waited for, and so on back to the first job. No record stands there twice.
+ *   The release of that first job and the lengths of all jobs of the chain add up to the end of the record asked about.
+ * Refused: returns OCTALMURE_REFUSED. A file that check refuses is refused in the same way; then come 10, 20 and 11, in this order.
+ *   10 does not tell which rule the run breaks; check does.
+ */
+uint32_t octalmure_why(const uint8_t *file, size_t file_length, uint32_t record, uint8_t *output, size_t output_length,
+                       uint8_t *answer, size_t answer_length);
 
 /* ---- the same calls, guarded ---- */
 
@@ -229,10 +247,23 @@ static inline uint32_t octalmure_guarded_export(const uint8_t *file, size_t file
                             answer ? answer : &nothing, answer_length);
 }
 
+static inline uint32_t octalmure_guarded_why(const uint8_t *file, size_t file_length, uint32_t record, uint8_t *output,
+                                             size_t output_length, uint8_t *answer, size_t answer_length) {
+    uint8_t nothing = 0;
+    if (!octalmure_is_slice(file, file_length) || !octalmure_is_slice(output, output_length) ||
+        !octalmure_is_slice(answer, answer_length) || !octalmure_apart(file, file_length, output, output_length) ||
+        !octalmure_apart(file, file_length, answer, answer_length) ||
+        !octalmure_apart(output, output_length, answer, answer_length)) {
+        return OCTALMURE_REFUSED;
+    }
+    return octalmure_why(file ? file : &nothing, file_length, record, output ? output : &nothing, output_length,
+                         answer ? answer : &nothing, answer_length);
+}
+
 /* ---- numbers, and reading an answer ---- */
 
-/* The four bytes there as a number, low byte first: as numbers stand in an answer and in a run file. The library reads them with the
-   same lines: docs/FORMAT.md lays the two side by side. */
+/* The four bytes there as a number, low byte first: as numbers stand in an answer, in a chain and in a run file. The library reads
+   them with the same lines: docs/FORMAT.md lays the two side by side. */
 static inline uint32_t octalmure_number(const uint8_t *bytes) {
     uint32_t a = bytes[0];
     uint32_t b = bytes[1];
@@ -280,11 +311,12 @@ static inline const char *octalmure_refusal_text(uint32_t refusal) {
     case OCTALMURE_REFUSAL_RECORD_COUNT: return "more than 512 records";
     case OCTALMURE_REFUSAL_TRAILING_BYTES: return "bytes after the last section";
     case OCTALMURE_REFUSAL_NEW_HORIZON: return "the new horizon is below H or above 1,000,000";
-    case OCTALMURE_REFUSAL_BROKEN_RUN: return "the run to be carried breaks a rule";
+    case OCTALMURE_REFUSAL_BROKEN_RUN: return "the run breaks a rule";
     case OCTALMURE_REFUSAL_SHORT_OUTPUT: return "a lent output is too short";
     case OCTALMURE_REFUSAL_BAD_LINE: return "a bad line in the table";
     case OCTALMURE_REFUSAL_REPEATED_JOB: return "a task and job already given by an earlier line of the table";
     case OCTALMURE_REFUSAL_NOT_RISING: return "the records do not rise strictly by task and job";
+    case OCTALMURE_REFUSAL_NO_SUCH_RECORD: return "there is no such record";
     default: return "no such refusal";
     }
 }

@@ -27,6 +27,17 @@ static void try_texts(Count *sum, const char *(*text)(uint32_t), uint32_t last, 
     count(sum, strcmp(text(0), none) == 0 && strcmp(text(last + 1), none) == 0, "a text for a number that is none");
 }
 
+/* Refusal 20 stands apart: 15 to 19 are not used. */
+static void try_twentieth(Count *sum) {
+    const char *none = "no such refusal";
+    for (uint32_t i = OCTALMURE_REFUSAL_NOT_RISING + 1; i <= OCTALMURE_REFUSAL_NO_SUCH_RECORD + 1; i++) {
+        bool has_text = strcmp(octalmure_refusal_text(i), none) != 0;
+        count(sum, has_text == (i == OCTALMURE_REFUSAL_NO_SUCH_RECORD), "a refusal that is not used has a text, or 20 has none");
+    }
+    count(sum, strcmp(octalmure_refusal_text(20), "there is no such record") == 0, "refusal 20 has another text");
+    count(sum, strcmp(octalmure_refusal_text(10), "the run breaks a rule") == 0, "refusal 10 has another text");
+}
+
 /* Rules 7 and 8 are by when a job is ready, and not by when it is released. */
 static void try_ready(Count *sum) {
     const char *order = octalmure_rule_text(OCTALMURE_RULE_ORDER), *idling = octalmure_rule_text(OCTALMURE_RULE_NO_IDLING);
@@ -41,4 +52,5 @@ void try_answers(Count *sum) {
     try_ready(sum);
     try_texts(sum, octalmure_rule_text, OCTALMURE_RULES_END - 1, "no such rule");
     try_texts(sum, octalmure_refusal_text, OCTALMURE_REFUSAL_NOT_RISING, "no such refusal");
+    try_twentieth(sum);
 }

@@ -6,7 +6,7 @@
 
 #include "trial.h"
 
-enum { C2_BYTES = 196, C2_TABLE_BYTES = 86, CARRIED_BYTES = 220, RUN_AT = 700 };
+enum { C2_BYTES = 196, C2_TABLE_BYTES = 86, CARRIED_BYTES = 220, CHAIN_BYTES = 8, RUN_AT = 700 };
 
 static uint8_t c2[OCTALMURE_MOST_FILE_BYTES], c2_table[OCTALMURE_MOST_FILE_BYTES], c9[OCTALMURE_MOST_FILE_BYTES];
 
@@ -15,9 +15,10 @@ static uint8_t c2[OCTALMURE_MOST_FILE_BYTES], c2_table[OCTALMURE_MOST_FILE_BYTES
     [RUN] = {RUN_AT, C2_BYTES, false}, [TABLE] = {300, C2_TABLE_BYTES, false}, [ANSWER] = {100, OCTALMURE_ANSWER_BYTES, false}
 static const Call whole[KINDS] = {
     [CHECK] = {.kind = CHECK, .slices = {ALL_BUT_OUTPUT}},
-    [CARRY] = {.kind = CARRY, .horizon = 20, .slices = {ALL_BUT_OUTPUT, [OUTPUT] = {1200, CARRIED_BYTES, false}}},
+    [CARRY] = {.kind = CARRY, .number = 20, .slices = {ALL_BUT_OUTPUT, [OUTPUT] = {1200, CARRIED_BYTES, false}}},
     [IMPORT] = {.kind = IMPORT, .slices = {ALL_BUT_OUTPUT, [OUTPUT] = {1200, C2_BYTES, false}}},
     [EXPORT] = {.kind = EXPORT, .slices = {ALL_BUT_OUTPUT, [OUTPUT] = {1200, C2_TABLE_BYTES, false}}},
+    [WHY] = {.kind = WHY, .number = 1, .slices = {ALL_BUT_OUTPUT, [OUTPUT] = {1200, CHAIN_BYTES, false}}},
 };
 
 static void try_c2(Count *sum, const Call *call) {
@@ -59,6 +60,7 @@ static void try_places(Count *sum) {
     sweep_around(sum, IMPORT, OUTPUT, TABLE);
     sweep_around(sum, IMPORT, TABLE, RUN);
     sweep_around(sum, EXPORT, OUTPUT, RUN);
+    sweep_around(sum, WHY, OUTPUT, RUN);
 }
 
 /* A slice of this length, within and beside the file, and null. */
@@ -75,7 +77,8 @@ static void try_length(Count *sum, Kind kind, Part part, size_t length) {
 
 /* Slices of length 0, short and long ones. */
 static void try_lengths(Count *sum) {
-    static const size_t lengths[] = {0, 1, 19, 20, 21, C2_TABLE_BYTES - 1, C2_BYTES - 1, C2_BYTES, CARRIED_BYTES};
+    static const size_t lengths[] = {0, 1, CHAIN_BYTES - 1, CHAIN_BYTES, 19, 20, 21, C2_TABLE_BYTES - 1, C2_BYTES - 1, C2_BYTES,
+                                     CARRIED_BYTES};
     for (size_t i = 0; i < sizeof lengths / sizeof lengths[0]; i++) {
         Call check = whole[CHECK];
         check.slices[ANSWER].length = lengths[i];
@@ -155,6 +158,7 @@ int main(int argc, char **argv) {
     try_lengths(&sum);
     try_impossible(&sum);
     try_shared(&sum);
+    try_whys(&sum, c2, C2_BYTES);
     try_answers(&sum);
     try_making(&sum, c2, C2_BYTES, c9, c9_length);
     try_small_stack(&sum, c9, c9_length);

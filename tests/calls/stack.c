@@ -14,7 +14,8 @@ typedef struct {
     size_t length;
     uint8_t longest[OCTALMURE_MOST_FILE_BYTES]; /* to be exported, and imported again */
     uint8_t output[OCTALMURE_MOST_FILE_BYTES], table[OCTALMURE_MOST_TABLE_BYTES], answer[OCTALMURE_ANSWER_BYTES];
-    uint32_t checked, carried, exported, imported;
+    uint8_t chained[OCTALMURE_MOST_FILE_BYTES], chain[OCTALMURE_MOST_CHAIN_BYTES]; /* a run with the longest chain, and that */
+    uint32_t checked, carried, exported, imported, told;
 } Work;
 
 static void *run(void *given) {
@@ -26,6 +27,8 @@ static void *run(void *given) {
                                       sizeof work->answer);
     work->imported = octalmure_import(work->longest, sizeof work->longest, work->table, sizeof work->table, work->output,
                                       sizeof work->output, work->answer, sizeof work->answer);
+    work->told = octalmure_why(work->chained, sizeof work->chained, OCTALMURE_MOST_JOBS - 1, work->chain, sizeof work->chain,
+                               work->answer, sizeof work->answer);
     return NULL;
 }
 
@@ -49,6 +52,36 @@ static void make_longest(uint8_t *at) {
     }
 }
 
+/* As many tasks and records as a file can have, on one core without a break: 16 jobs of each task, by job and then by task, two ticks
+   each. Only the first takes three, so that every other starts after its release, when the one before it ends. */
+static void make_chained(uint8_t *at) {
+    enum { JOBS = OCTALMURE_MOST_JOBS / OCTALMURE_MOST_TASKS, PERIOD = 2 * OCTALMURE_MOST_TASKS };
+    const struct octalmure_setting setting = {.cores = 1, .horizon = JOBS * PERIOD};
+    const struct octalmure_task task = {.period = PERIOD, .least = 2, .greatest = 3, .offset = 0, .jitter = 0};
+    at = octalmure_put_setting(at, setting);
+    at = octalmure_put_number(at, OCTALMURE_MOST_TASKS);
+    for (uint32_t i = 0; i < OCTALMURE_MOST_TASKS; i++) {
+        at = octalmure_put_task(at, task);
+    }
+    at = octalmure_put_number(at, OCTALMURE_MOST_JOBS);
+    for (uint32_t k = 0; k < OCTALMURE_MOST_JOBS; k++) {
+        uint32_t i = k / JOBS, j = k % JOBS, release = j * PERIOD, start = release + 2 * i + (k > 0);
+        struct octalmure_record record = {i, j, release, start, release + 2 * i + 3, 1};
+        at = octalmure_put_record(at, record);
+    }
+}
+
+/* Record k is job k % 16 of task k / 16; the one before it in the chain is the same job of the task before. */
+static bool whole_chain(const Work *work) {
+    bool whole = work->told == OCTALMURE_CHAIN && octalmure_decode(work->answer).code == OCTALMURE_MOST_JOBS;
+    for (uint32_t i = 0; i < OCTALMURE_MOST_JOBS; i++) {
+        uint32_t turn = OCTALMURE_MOST_JOBS - 1 - i; /* the first in the run is 0 */
+        uint32_t number = turn % OCTALMURE_MOST_TASKS * (OCTALMURE_MOST_JOBS / OCTALMURE_MOST_TASKS) + turn / OCTALMURE_MOST_TASKS;
+        whole = whole && octalmure_number(work->chain + OCTALMURE_NUMBER_BYTES * (size_t)i) == number;
+    }
+    return whole;
+}
+
 void try_small_stack(Count *sum, const uint8_t *file, size_t length) {
     static Work work;
     pthread_attr_t small;
@@ -56,6 +89,7 @@ void try_small_stack(Count *sum, const uint8_t *file, size_t length) {
     work.file = file;
     work.length = length;
     make_longest(work.longest);
+    make_chained(work.chained);
     printf("calls: on a stack of 64 KiB\n");
     fflush(stdout);
     bool ran = pthread_attr_init(&small) == 0 && pthread_attr_setstacksize(&small, SMALL_STACK) == 0 &&
@@ -66,4 +100,5 @@ void try_small_stack(Count *sum, const uint8_t *file, size_t length) {
           "the longest table is not exported on a small stack");
     count(sum, work.imported == OCTALMURE_WRITTEN && memcmp(work.output, work.longest, sizeof work.output) == 0,
           "the longest table is not imported on a small stack, or is not its file again");
+    count(sum, whole_chain(&work), "the longest chain is not told on a small stack");
 }

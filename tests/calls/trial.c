@@ -22,36 +22,39 @@ static const struct {
     [CARRY] = {"carry", {[RUN] = true, [OUTPUT] = true, [ANSWER] = true}},
     [IMPORT] = {"import", {[RUN] = true, [TABLE] = true, [OUTPUT] = true, [ANSWER] = true}},
     [EXPORT] = {"export", {[RUN] = true, [OUTPUT] = true, [ANSWER] = true}},
+    [WHY] = {"why", {[RUN] = true, [OUTPUT] = true, [ANSWER] = true}},
 };
 
 bool has(Kind kind, Part part) {
     return kinds[kind].parts[part];
 }
 
-uint32_t call_guarded(Kind kind, const Lent lent[PARTS], uint32_t horizon) {
+uint32_t call_guarded(Kind kind, const Lent lent[PARTS], uint32_t number) {
     Lent run = lent[RUN], table = lent[TABLE], output = lent[OUTPUT], answer = lent[ANSWER];
     switch (kind) {
     case CHECK: return octalmure_guarded_check(run.pointer, run.length, answer.pointer, answer.length);
     case CARRY:
-        return octalmure_guarded_carry(run.pointer, run.length, horizon, output.pointer, output.length, answer.pointer,
-                                       answer.length);
+        return octalmure_guarded_carry(run.pointer, run.length, number, output.pointer, output.length, answer.pointer, answer.length);
     case IMPORT:
         return octalmure_guarded_import(run.pointer, run.length, table.pointer, table.length, output.pointer, output.length,
                                         answer.pointer, answer.length);
-    default: return octalmure_guarded_export(run.pointer, run.length, output.pointer, output.length, answer.pointer, answer.length);
+    case EXPORT: return octalmure_guarded_export(run.pointer, run.length, output.pointer, output.length, answer.pointer, answer.length);
+    default:
+        return octalmure_guarded_why(run.pointer, run.length, number, output.pointer, output.length, answer.pointer, answer.length);
     }
 }
 
-static uint32_t call_plain(Kind kind, const Lent lent[PARTS], uint32_t horizon) {
+static uint32_t call_plain(Kind kind, const Lent lent[PARTS], uint32_t number) {
     Lent run = lent[RUN], table = lent[TABLE], output = lent[OUTPUT], answer = lent[ANSWER];
     switch (kind) {
     case CHECK: return octalmure_check(run.pointer, run.length, answer.pointer, answer.length);
     case CARRY:
-        return octalmure_carry(run.pointer, run.length, horizon, output.pointer, output.length, answer.pointer, answer.length);
+        return octalmure_carry(run.pointer, run.length, number, output.pointer, output.length, answer.pointer, answer.length);
     case IMPORT:
         return octalmure_import(run.pointer, run.length, table.pointer, table.length, output.pointer, output.length, answer.pointer,
                                 answer.length);
-    default: return octalmure_export(run.pointer, run.length, output.pointer, output.length, answer.pointer, answer.length);
+    case EXPORT: return octalmure_export(run.pointer, run.length, output.pointer, output.length, answer.pointer, answer.length);
+    default: return octalmure_why(run.pointer, run.length, number, output.pointer, output.length, answer.pointer, answer.length);
     }
 }
 
@@ -63,7 +66,7 @@ static uint32_t guarded(uint8_t *room, const Call *call) {
         const Slice *slice = &call->slices[part];
         lent[part] = (Lent){slice->null ? NULL : room + slice->at, slice->length};
     }
-    return call_guarded(call->kind, lent, call->horizon);
+    return call_guarded(call->kind, lent, call->number);
 }
 
 /* The plain call takes no null pointer: a slice of length 0 stands at the room's front then. */
@@ -73,7 +76,7 @@ static uint32_t plain(uint8_t *room, const Call *call) {
         const Slice *slice = &call->slices[part];
         lent[part] = (Lent){slice->null ? room : room + slice->at, slice->length};
     }
-    return call_plain(call->kind, lent, call->horizon);
+    return call_plain(call->kind, lent, call->number);
 }
 
 /* Marks the bytes of a slice; says whether one was marked before. */

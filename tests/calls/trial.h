@@ -8,7 +8,7 @@
 
 enum { ROOM = 1600 };
 
-typedef enum { CHECK, CARRY, IMPORT, EXPORT, KINDS } Kind;
+typedef enum { CHECK, CARRY, IMPORT, EXPORT, WHY, KINDS } Kind;
 /* The slices that a call may have: those that are read, and from OUTPUT on those that are written. */
 typedef enum { RUN, TABLE, OUTPUT, ANSWER, PARTS } Part;
 
@@ -19,7 +19,7 @@ typedef struct {
 
 typedef struct {
     Kind kind;
-    uint32_t horizon;
+    uint32_t number; /* the horizon of a carry, the record of a why */
     Slice slices[PARTS];
 } Call;
 
@@ -36,13 +36,14 @@ void count(Count *sum, bool right, const char *what);
 
 /* Whether calls of this kind have such a slice. */
 bool has(Kind kind, Part part);
-uint32_t call_guarded(Kind kind, const Lent lent[PARTS], uint32_t horizon);
+uint32_t call_guarded(Kind kind, const Lent lent[PARTS], uint32_t number);
 /* Tries the call; the contents stand where the slices that are read do, as far as their lengths go. */
 void try_call(Count *sum, const Call *call, const Lent contents[OUTPUT]);
 
 /* The other tests of the program. */
 void try_answers(Count *sum);
 void try_small_stack(Count *sum, const uint8_t *file, size_t length);
+void try_whys(Count *sum, const uint8_t *c2, size_t c2_length);
 /* The files are C2 and C9. */
 void try_making(Count *sum, const uint8_t *c2, size_t c2_length, const uint8_t *c9, size_t c9_length);
 

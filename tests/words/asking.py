@@ -9,30 +9,37 @@ import termios
 
 from trial import ROOT, seen, text, told
 
-# what each worked run makes each word end with: check, show and say alike; say and carry to a horizon. A file that is not refused is
-# exported, and takes a table, whether its run breaks a rule or not.
+# what each worked run makes each word end with: check, show, say and explain alike; say and carry to a horizon. A file that is not
+# refused is exported, and takes a table, whether its run breaks a rule or not.
 SCHEME = {"c1": (0, 30, 0), "c2": (0, 20, 0), "c4": (0, 30, 0), "c5": (1, 30, 1), "c6": (1, 30, 1), "c7": (1, 30, 1), "c8": (3, 30, 3),
           "c9": (0, 512, 0), "c10": (3, 513, 3), "c11": (0, 1, 0), "beside": (1, 3, 1), "turn": (0, 9, 0), "turned": (0, 9, 0),
-          "longest": (0, 512, 0)}
+          "desk": (0, 60, 0), "longest": (0, 512, 0)}
 WRONG = ([], ["measure", "c1.run"], [""], ["check"], ["check", "c1.run", "c2.run"], ["carry", "c1.run"], ["carry", "c1.run", "30", "31"],
          ["carry", "c1.run", "twenty"], ["carry", "c1.run", ""], ["carry", "c1.run", "3x"], ["carry", "c1.run", " 3"],
          ["carry", "c1.run", "+30"], ["carry", "c1.run", "-20"], ["carry", "c1.run", "30", "-o"], ["check", "c1.run", "-o", "out"],
          ["carry", "c1.run", "30", "-o", "a", "-o", "b"], ["show"], ["show", "c1.run", "30"], ["say"], ["say", "c1.run", "3x"],
          ["say", "c1.run", "30", "31"], ["import"], ["import", "c1.run"], ["import", "c1.run", "c1.csv", "c1.csv"], ["import", "-", "-"],
          ["import", "c1.run", "c1.csv", "-o"], ["import", "c1.run", "c1.csv", "-o", "a", "-o", "b"], ["export"],
-         ["export", "c1.run", "c1.csv"], ["export", "c1.run", "-o"], ["check", "--no-such", "c1.run"], ["--no-such"], ["help", "measure"])
+         ["export", "c1.run", "c1.csv"], ["export", "c1.run", "-o"], ["check", "--no-such", "c1.run"], ["--no-such"], ["help", "measure"],
+         ["why"], ["why", "c1.run"], ["why", "c1.run", ""], ["why", "c1.run", "-1"], ["why", "c1.run", "1x"], ["why", "c1.run", "0", "1"],
+         ["why", "c1.run", "0", "-o", "out"], ["explain"], ["explain", "c1.run", "c2.run"], ["explain", "c1.run", "--names"],
+         ["explain", "c1.run", "--names", "desk.names", "--names", "desk.names"], ["explain", "c1.run", "--json", "--json"],
+         ["explain", "c1.run", "--json=yes"], ["explain", "c1.run", "--name=desk.names"], ["say", "c1.run", "--json"],
+         ["show", "c1.run", "--names", "desk.names"], ["explain", "-", "--names", "-"])
 
 
 def scheme(room):
     for name, (checked, horizon, said) in SCHEME.items():
         file = f"{name}.run"
-        for words in (["check", file], ["show", file], ["say", file]):
+        for words in (["check", file], ["show", file], ["say", file], *([["explain", file]] if name != "longest" else [])):
             done = room.run(*words)
             yield f"{words}: {seen(done)}", done.returncode == checked and done.stdout and not done.stderr
         done = room.run("say", file, horizon)
         yield f"say {file} {horizon}: {seen(done)}", done.returncode == said and done.stdout and not done.stderr
         done = room.run("carry", file, horizon)
         yield f"carry {file} {horizon}: {seen(done)}", done.returncode == (3 if checked else 0) and done.stdout and not done.stderr
+        done = room.run("why", file, 0)
+        yield f"why {file} 0: {seen(done)}", done.returncode == (3 if checked or name == "c11" else 0) and done.stdout and not done.stderr
         for words in (["export", file], ["import", file, "c1.csv"]):
             done = room.run(*words)
             yield f"{words}: {seen(done)}", done.returncode == (3 if checked == 3 else 0) and done.stdout and not done.stderr
@@ -60,7 +67,8 @@ def usage(room):
 def helps(room):
     done = room.run("--help")
     words = re.findall(r"^  (\w+) ", text(done.stdout), re.M)
-    yield f"--help: {seen(done)}", told(done, 0, None, "") and {"check", "carry", "show", "say", "import", "export"} <= set(words)
+    known = {"check", "carry", "show", "say", "why", "explain", "import", "export"}
+    yield f"--help: {seen(done)}", told(done, 0, None, "") and known <= set(words)
     for words_ in (["-h"], ["help"]):
         yield f"{words_} is not --help", room.run(*words_).stdout == done.stdout
     page = (ROOT / "docs" / "octalmure.1").read_text()

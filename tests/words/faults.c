@@ -1,5 +1,6 @@
 /* The system's calls as the command meets them on a bad day. FAULT names what goes wrong:
  *   read, write, close, fsync, fchmod, rename, memory   that call fails: read and write after a part was done
+ *   scarce       there is memory for what is gathered first, and none for more
  *   drops        every read and write does one byte, and every other one is interrupted: nothing is wrong, and nothing may be lost
  *   SIGTERM etc. the signal comes while the file stands under its other name
  *   standard     the file under its other name must not have the number of a standard stream, though that be closed
@@ -97,7 +98,9 @@ int __wrap_mkstemp(char *name) {
 }
 
 FILE *__wrap_open_memstream(char **bytes, size_t *length) {
-    if (fault("memory")) {
+    static int calls;
+    calls++;
+    if (fault("memory") || (fault("scarce") && calls > 1)) {
         errno = ENOMEM;
         return NULL;
     }

@@ -5,8 +5,10 @@ import subprocess
 from trial import NOBODY, seen, text, told
 
 # each word with what stands behind it; None is the file that is in question
-WORDS = (("check", None), ("carry", None, "30"), ("show", None), ("say", None), ("say", None, "30"), ("import", None, "c1.csv"),
-         ("import", "c1.run", None), ("export", None))
+WORDS = (("check", None), ("carry", None, "30"), ("show", None), ("say", None), ("say", None, "30"), ("why", None, "0"), ("explain", None),
+         ("explain", "--json", None), ("import", None, "c1.csv"), ("import", "c1.run", None), ("export", None))
+# a names file may begin with '-', and may be empty
+NAMING = ("explain", "c1.run", "--names", None)
 C1 = b"1 1 0 0 0\n"
 MOST_READ = 12949
 
@@ -17,7 +19,7 @@ def asked(word, name):
 
 def trouble(room, name, reason, shown=None, **how):
     """Every word names the file and the reason, exits with 2, and leaves standard output empty."""
-    for word in WORDS:
+    for word in (*WORDS, NAMING):
         words = asked(word, name)
         done = room.run(*words, **how)
         yield f"{words}: {seen(done)}", told(done, 2, b"", f"octalmure: {shown or name}: {reason}\n")
@@ -73,7 +75,7 @@ def names(room):
 def nothing(room):
     """Standard input without a byte is a file, and a table, that is refused."""
     for words in (asked(word, "-") for word in WORDS):
-        line = None if words[0] in ("show", "say") else b"4 12 1 0 0\n" if words == ["import", "c1.run", "-"] else b"4 1 0 0 0\n"
+        line = None if words[0] in ("show", "say", "explain") else b"4 12 1 0 0\n" if words == ["import", "c1.run", "-"] else b"4 1 0 0 0\n"
         done = room.run(*words, input=b"")
         yield f"{words} with nothing on standard input: {seen(done)}", told(done, 3, line, "")
 

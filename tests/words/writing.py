@@ -19,7 +19,8 @@ WRITING = {
     ("export", "c9.run"): ("c9.csv", {("c10.run",): b"4 6 0 0 0\n", ("c8.run",): b"4 1 0 0 0\n"}),
 }
 SAYING = (["check", "c1.run"], *map(list, WRITING), ["carry", "c1.run", "19"], ["import", "c1.run", "c1.run"], ["export", "c8.run"],
-          ["show", "c9.run"], ["say", "c1.run", "30"], ["--help"], ["check", "--help"], ["--version"])
+          ["show", "c9.run"], ["say", "c1.run", "30"], ["why", "c1.run", "1"], ["explain", "c1.run"],
+          ["explain", "c1.run", "--json"], ["--help"], ["check", "--help"], ["--version"])
 
 
 def failed(done, name, reason):
