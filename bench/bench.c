@@ -1,5 +1,5 @@
-/* bench [ROUNDS]: times check and carry of the library beside the independent checker of tests/independent, and import and export
-   beside straight.c, in one process, and prints a line for each file. Both must say the same of every file, and write the same
+/* bench [ROUNDS]: times check and carry of the library beside the independent checker of tests/independent, and import, export and
+   why beside straight.c, in one process, and prints a line for each file. Both must say the same of every file, and write the same
    bytes; otherwise nothing more is timed. */
 #include <inttypes.h>
 #include <stdbool.h>
@@ -20,6 +20,8 @@ extern uint32_t octalmure_import(const uint8_t *file, size_t file_length, const 
                                  uint8_t *output, size_t output_length, uint8_t *answer, size_t answer_length);
 extern uint32_t octalmure_export(const uint8_t *file, size_t file_length, uint8_t *output, size_t output_length, uint8_t *answer,
                                  size_t answer_length);
+extern uint32_t octalmure_why(const uint8_t *file, size_t file_length, uint32_t record, uint8_t *output, size_t output_length,
+                              uint8_t *answer, size_t answer_length);
 
 enum { ANSWER_BYTES = 20, MOST_ROUNDS = 1001, BATCH_NANOSECONDS = 2000000 };
 
@@ -30,16 +32,17 @@ typedef struct {
     uint32_t (*carry)(const uint8_t *, size_t, uint32_t, uint8_t *, size_t, uint8_t *, size_t);
     uint32_t (*import)(const uint8_t *, size_t, const uint8_t *, size_t, uint8_t *, size_t, uint8_t *, size_t);
     uint32_t (*export)(const uint8_t *, size_t, uint8_t *, size_t, uint8_t *, size_t);
+    uint32_t (*why)(const uint8_t *, size_t, uint32_t, uint8_t *, size_t, uint8_t *, size_t);
     uint8_t answer[ANSWER_BYTES], output[MOST_TABLE_BYTES];
 } Side;
 
-typedef enum { CHECK, CARRY, IMPORT, EXPORT } Which;
-static const char *const call_names[] = {"check", "carry", "import", "export"};
+typedef enum { CHECK, CARRY, IMPORT, EXPORT, WHY } Which;
+static const char *const call_names[] = {"check", "carry", "import", "export", "why"};
 
 typedef struct {
     const char *name;
     Which call;
-    uint32_t horizon, records, cores; /* what it is carried to; the records that are checked, or written */
+    uint32_t horizon, record, records, cores; /* what it is carried to; the one asked about; those that are checked, or written */
     File file;
     Table table;
 } Case;
@@ -54,6 +57,7 @@ static void call(Side *side, const Case *c) {
         side->import(file, length, c->table.bytes, c->table.length, side->output, room, side->answer, ANSWER_BYTES);
         break;
     case EXPORT: side->export(file, length, side->output, room, side->answer, ANSWER_BYTES); break;
+    case WHY: side->why(file, length, c->record, side->output, room, side->answer, ANSWER_BYTES); break;
     }
 }
 
@@ -153,6 +157,11 @@ static void time_exchange(Bench *bench, Which which, const char *name, uint32_t 
     time_case(bench, c);
 }
 
+static void time_why(Bench *bench, const char *name, uint32_t record, uint32_t records, uint32_t cores, Case *c) {
+    c->name = name, c->call = WHY, c->record = record, c->records = records, c->cores = cores;
+    time_case(bench, c);
+}
+
 /* ---- what is timed ---- */
 
 static const uint32_t some_cores[] = {1, 16}, some_records[] = {64, 128, 256, 512};
@@ -247,10 +256,37 @@ static void time_small_tables(Bench *bench) {
     time_exchange(bench, IMPORT, "header alone", 0, 1, &c);
 }
 
+/* The longest chains, and others; the code of the answer is how many records a chain has. */
+static void time_chains(Bench *bench) {
+    enum { MOST = 512, CORES = 16 };
+    static Case c;
+    behind_file(CORES, 1, &c.file);
+    time_why(bench, "longest, by job", MOST - 1, MOST, CORES, &c);
+    behind_file(1, MOST_TASKS, &c.file);
+    time_why(bench, "longest, by core", MOST - 1, MOST, 1, &c);
+    permitted_file(MOST, 1, OVERLOADED, &c.file);
+    time_why(bench, "late", longest_chain(&c.file), MOST, 1, &c);
+    permitted_file(MOST, CORES, OVERLOADED, &c.file);
+    time_why(bench, "late", longest_chain(&c.file), MOST, CORES, &c);
+    permitted_file(MOST, CORES, IN_CHAINS, &c.file);
+    time_why(bench, "in chains", longest_chain(&c.file), MOST, CORES, &c);
+    permitted_file(MOST, CORES, HALF_BUSY, &c.file);
+    time_why(bench, "at its release", first_at_release(&c.file), MOST, CORES, &c);
+    time_why(bench, "no such record", MOST, MOST, CORES, &c);
+    broken_file(MOST, CORES, 9, AT_THE_BACK, &c.file);
+    time_why(bench, "rule 9, back", 0, MOST, CORES, &c);
+    worked_file(&c.file);
+    time_why(bench, "worked run", 1, 5, 2, &c);
+    empty_run_file(&c.file);
+    time_why(bench, "no record", 0, 0, 1, &c);
+}
+
 int main(int argc, char **argv) {
     static Bench bench = {
-        .ours = {.check = octalmure_check, .carry = octalmure_carry, .import = octalmure_import, .export = octalmure_export},
-        .straight = {.check = oracle_check, .carry = oracle_carry, .import = straight_import, .export = straight_export},
+        .ours = {.check = octalmure_check, .carry = octalmure_carry, .import = octalmure_import, .export = octalmure_export,
+                 .why = octalmure_why},
+        .straight = {.check = oracle_check, .carry = oracle_carry, .import = straight_import, .export = straight_export,
+                     .why = straight_why},
     };
     bench.rounds = argc > 1 ? (uint32_t)strtoul(argv[1], NULL, 10) : 15;
     if (argc > 2 || bench.rounds == 0 || bench.rounds > MOST_ROUNDS) {
@@ -271,5 +307,6 @@ int main(int argc, char **argv) {
     time_small(&bench);
     time_tables(&bench);
     time_small_tables(&bench);
+    time_chains(&bench);
     return EXIT_SUCCESS;
 }

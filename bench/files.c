@@ -5,6 +5,7 @@
 #include <stdlib.h>
 #include <string.h>
 
+#include "../tests/independent/causes.h"
 #include "../tests/independent/oracle.h"
 #include "../tests/independent/server.h"
 
@@ -105,6 +106,33 @@ void half_file(uint32_t records, uint32_t cores, Load load, File *file) {
     run.horizon /= 2;
     serve(&run, NO_FAULT, &chance);
     write_file(&run, file);
+}
+
+void behind_file(uint32_t cores, uint32_t tasks, File *file) {
+    Run run = {.cores = cores, .horizon = MOST_JOBS, .task_count = tasks};
+    Chance chance = chance_of(9, tasks);
+    for (uint32_t i = 0; i < tasks; i++) {
+        run.tasks[i] = (Task){.period = tasks, .least = 2, .greatest = 2, .offset = i};
+    }
+    serve(&run, NO_FAULT, &chance);
+    write_file(&run, file);
+}
+
+uint32_t longest_chain(const File *file) {
+    uint32_t lengths[MOST_JOBS], longest = 0, count = oracle_chain_lengths(file->bytes, file->length, lengths);
+    for (uint32_t k = 1; k < count; k++) {
+        longest = lengths[k] > lengths[longest] ? k : longest;
+    }
+    return longest;
+}
+
+uint32_t first_at_release(const File *file) {
+    uint32_t lengths[MOST_JOBS], k = 0;
+    oracle_chain_lengths(file->bytes, file->length, lengths);
+    while (lengths[k] > 1) {
+        k++;
+    }
+    return k;
 }
 
 /* ---- runs that break a rule ---- */

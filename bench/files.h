@@ -35,12 +35,18 @@ void permitted_file(uint32_t records, uint32_t cores, Load load, File *file);
 void half_file(uint32_t records, uint32_t cores, Load load, File *file);
 /* A run that breaks just this rule, and no lower one. On one core none breaks rule 9. */
 void broken_file(uint32_t records, uint32_t cores, uint32_t rule, Where where, File *file);
+/* 512 records that fall behind ever farther: each waits for the one before it, all of them one chain. Of one task through its jobs,
+   on any of the cores; of 32 tasks on one core through the core. */
+void behind_file(uint32_t cores, uint32_t tasks, File *file);
 /* The paper's first run: five records. */
 void worked_file(File *file);
 /* 512 records in which every number has ten digits: their table is the longest. */
 void longest_lines_file(File *file);
 /* A run without a record. */
 void empty_run_file(File *file);
+/* The record with the longest chain of an accepted run, and the first one that started at its release. */
+uint32_t longest_chain(const File *file);
+uint32_t first_at_release(const File *file);
 
 /* The records of a file, which is one of those above, as a table. */
 void table_of(const File *file, Order order, Table *table);

@@ -5,8 +5,10 @@
 #include <string.h>
 
 #include "../tests/independent/entries.h"
+#include "../tests/independent/oracle.h"
 
-enum { REFUSED = 4, WRITTEN = 5, ANSWER_BYTES = 20, AT_TASKS = 16, TASK_BYTES = 20, RECORD_BYTES = 24, RECORD_NUMBERS = 6 };
+enum { RULE_BROKEN = 3, REFUSED = 4, WRITTEN = 5, CHAIN = 6 };
+enum { NUMBER_BYTES = 4, ANSWER_BYTES = 20, AT_TASKS = 16, TASK_BYTES = 20, RECORD_BYTES = 24, RECORD_NUMBERS = 6 };
 
 static const char header[] = "task,job,release,start,end,core\n";
 enum { HEADER_LINE_BYTES = sizeof header - 1, MOST_LINE_BYTES = RECORD_NUMBERS * 11 };
@@ -253,4 +255,66 @@ uint32_t straight_export(const uint8_t *file, size_t length, uint8_t *output, si
     }
     memcpy(output, table, bytes);
     return say(answer, WRITTEN, (uint32_t)bytes, 0);
+}
+
+/* ---- why ---- */
+
+/* Where a record ended, core and instant as one number, and which record it is. */
+typedef struct {
+    uint64_t where;
+    uint32_t place;
+} End;
+
+static int by_end(const void *a, const void *b) {
+    const End *x = a, *y = b;
+    return (x->where > y->where) - (x->where < y->where);
+}
+
+/* Writes the chain into room for MOST_JOBS numbers, and returns how many they are. */
+static uint32_t chain_of(const uint8_t *records, uint32_t count, uint32_t record, uint32_t *chain) {
+    End ends[MOST_JOBS];
+    uint32_t length = 0;
+    for (uint32_t k = 0; k < count; k++) {
+        const uint8_t *r = records + (size_t)k * RECORD_BYTES;
+        ends[k] = (End){(uint64_t)get(r + 20) << 32 | get(r + 16), k};
+    }
+    qsort(ends, count, sizeof *ends, by_end);
+    for (;;) {
+        const uint8_t *r = records + (size_t)record * RECORD_BYTES;
+        uint32_t start = get(r + 12);
+        chain[length++] = record;
+        if (get(r + 8) == start) {
+            return length;
+        }
+        if (get(r + 4) > 0 && get(r - RECORD_BYTES + 16) == start) {
+            record--;
+        } else {
+            const End key = {(uint64_t)get(r + 20) << 32 | start, 0};
+            record = ((const End *)bsearch(&key, ends, count, sizeof *ends, by_end))->place;
+        }
+    }
+}
+
+uint32_t straight_why(const uint8_t *file, size_t length, uint32_t record, uint8_t *output, size_t output_length, uint8_t *answer,
+                      size_t answer_length) {
+    uint32_t chain[MOST_JOBS], checked = oracle_check(file, length, answer, answer_length);
+    if (checked == REFUSED) {
+        return REFUSED;
+    }
+    if (checked == RULE_BROKEN) {
+        return say(answer, REFUSED, 10, 0);
+    }
+    const uint8_t *count_at = file + AT_TASKS + (size_t)get(file + 12) * TASK_BYTES;
+    uint32_t count = get(count_at);
+    if (record >= count) {
+        return say(answer, REFUSED, 20, 0);
+    }
+    uint32_t links = chain_of(count_at + 4, count, record, chain);
+    if (output_length < (size_t)links * NUMBER_BYTES) {
+        return say(answer, REFUSED, 11, 0);
+    }
+    for (uint32_t i = 0; i < links; i++) {
+        put(output + (size_t)i * NUMBER_BYTES, chain[i]);
+    }
+    return say(answer, CHAIN, links, 0);
 }

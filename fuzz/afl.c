@@ -51,13 +51,12 @@ static uint8_t *counts_of_the_fuzzer(void) {
 static void work(uint8_t *counts) {
     close(FROM_FUZZER);
     close(TO_FUZZER);
-    for (int i = 0; i < INPUTS_BY_ONE_CHILD; i++) {
+    for (;;) {
         memset(probe_counts, 0, probe_number);
         try_input(input, read_all(STDIN_FILENO));
         memcpy(counts, probe_counts, probe_number);
         raise(SIGSTOP);
     }
-    _exit(0);
 }
 
 static pid_t begin(uint8_t *counts) {
@@ -68,22 +67,28 @@ static pid_t begin(uint8_t *counts) {
     return child;
 }
 
-/* afl-fuzz asks for a run by four bytes, which say whether it killed the child; it is told the child, and how the child ended. */
+/* afl-fuzz asks for a run by four bytes, which say whether it killed the child; it is told the child, and how the child ended. A
+   child that has tried many inputs is replaced before the next one: if it ended by itself, that one would seem to meet no probe. */
 static int serve(void) {
     uint8_t *counts = counts_of_the_fuzzer();
-    uint32_t killed;
+    uint32_t killed, tried = 0;
     pid_t child = 0;
     int status = 0;
     speak(with_size | (probe_number - 1) << 1);
     while (read(FROM_FUZZER, &killed, sizeof killed) == sizeof killed) {
-        if (child > 0 && killed && WIFSTOPPED(status)) {
+        if (child > 0 && WIFSTOPPED(status) && (killed || tried == INPUTS_BY_ONE_CHILD)) {
+            kill(child, SIGKILL);
             waitpid(child, &status, 0);
         }
-        if (child > 0 && !killed && WIFSTOPPED(status)) {
+        if (child > 0 && WIFSTOPPED(status)) {
             kill(child, SIGCONT);
-        } else if ((child = begin(counts)) < 0) {
-            return 1;
+        } else {
+            tried = 0;
+            if ((child = begin(counts)) < 0) {
+                return 1;
+            }
         }
+        tried++;
         speak((uint32_t)child);
         if (waitpid(child, &status, WUNTRACED) < 0) {
             return 1;

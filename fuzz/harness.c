@@ -5,6 +5,8 @@
 #include <stdlib.h>
 #include <string.h>
 
+#include "causes.h"
+#include "closing.h"
 #include "exchange.h"
 #include "input.h"
 #include "oracle.h"
@@ -17,17 +19,24 @@ extern uint32_t probed_import(const uint8_t *file, size_t file_length, const uin
                               size_t output_length, uint8_t *answer, size_t answer_length);
 extern uint32_t probed_export(const uint8_t *file, size_t file_length, uint8_t *output, size_t output_length, uint8_t *answer,
                               size_t answer_length);
+extern uint32_t probed_why(const uint8_t *file, size_t file_length, uint32_t record, uint8_t *output, size_t output_length,
+                           uint8_t *answer, size_t answer_length);
 
 typedef struct {
     uint32_t (*check)(const uint8_t *, size_t, uint8_t *, size_t);
     uint32_t (*carry)(const uint8_t *, size_t, uint32_t, uint8_t *, size_t, uint8_t *, size_t);
     uint32_t (*import)(const uint8_t *, size_t, const uint8_t *, size_t, uint8_t *, size_t, uint8_t *, size_t);
     uint32_t (*export)(const uint8_t *, size_t, uint8_t *, size_t, uint8_t *, size_t);
+    uint32_t (*why)(const uint8_t *, size_t, uint32_t, uint8_t *, size_t, uint8_t *, size_t);
 } Subject;
 
-static const Subject archive = {octalmure_guarded_check, octalmure_guarded_carry, octalmure_guarded_import, octalmure_guarded_export},
-                     probed = {probed_check, probed_carry, probed_import, probed_export},
-                     oracle = {oracle_check, oracle_carry, oracle_import, oracle_export};
+static const Subject archive = {octalmure_guarded_check, octalmure_guarded_carry, octalmure_guarded_import,
+                                octalmure_guarded_export, octalmure_guarded_why},
+                     probed = {probed_check, probed_carry, probed_import, probed_export, probed_why},
+                     oracle = {oracle_check, oracle_carry, oracle_import, oracle_export, oracle_why};
+
+/* What a call can answer besides a refusal: what is said of a run; that something was written; a chain. */
+typedef enum { VERDICT, WRITTEN, CHAIN } Kind;
 
 enum { CANARY = 32, ALIGNMENTS = 16, PATTERN = 0xA5, MOST_BYTES = MOST_OUTPUT };
 
@@ -45,7 +54,7 @@ typedef struct {
 typedef struct {
     const uint8_t *file, *table;
     size_t length, table_length, output_length, answer_length, front;
-    uint32_t horizon;
+    uint32_t horizon, record;
 } Call;
 
 static void demand(bool holds, const char *what) {
@@ -97,6 +106,13 @@ static void export(const Subject *subject, const Call *call, Memory *memory) {
                                        memory->answer.bytes + front, call->answer_length);
 }
 
+static void why(const Subject *subject, const Call *call, Memory *memory) {
+    size_t front = call->front;
+    lend_all(memory, call);
+    memory->returned = subject->why(memory->file.bytes + front, call->length, call->record, memory->output.bytes + front,
+                                    call->output_length, memory->answer.bytes + front, call->answer_length);
+}
+
 /* Whether the slice and its canaries have the pattern, but for its first bytes. */
 static bool changed_only(const Lent *lent, const Call *call, size_t length, size_t first) {
     static Lent pattern;
@@ -118,13 +134,25 @@ static bool same(const Memory *a, const Memory *b, const Call *call) {
            same_slice(&a->answer, &b->answer, call, call->answer_length);
 }
 
-/* What holds of every call, whatever the oracle says. All but a check write, or refuse to. */
-static void demand_laws(const Call *call, const Memory *memory, bool writes) {
+/* Whether the number is one that such a call can return. */
+static bool is_answer(uint32_t returned, Kind kind) {
+    static const uint32_t others[] = {[WRITTEN] = OCTALMURE_WRITTEN, [CHAIN] = OCTALMURE_CHAIN};
+    return returned == OCTALMURE_REFUSED || (kind == VERDICT ? returned < OCTALMURE_REFUSED : returned == others[kind]);
+}
+
+/* How many bytes of the output the call says that it wrote. */
+static size_t written_by(const Call *call, const Memory *memory, Kind kind) {
+    struct octalmure_answer five = octalmure_decode(memory->answer.bytes + call->front);
+    bool wrote = call->answer_length >= OCTALMURE_ANSWER_BYTES && memory->returned != OCTALMURE_REFUSED && kind != VERDICT;
+    return !wrote ? 0 : kind == CHAIN ? OCTALMURE_NUMBER_BYTES * (size_t)five.code : five.code;
+}
+
+/* What holds of every call, whatever the oracle says. */
+static void demand_laws(const Call *call, const Memory *memory, Kind kind) {
     struct octalmure_answer five = octalmure_decode(memory->answer.bytes + call->front);
     bool told = call->answer_length >= OCTALMURE_ANSWER_BYTES;
-    size_t written = told && memory->returned == OCTALMURE_CARRIED ? five.code : 0;
-    demand(memory->returned <= (writes ? OCTALMURE_CARRIED : OCTALMURE_REFUSED), "a number that is no answer of the call");
-    demand(!writes || memory->returned >= OCTALMURE_REFUSED, "a call that neither wrote nor refused");
+    size_t written = written_by(call, memory, kind);
+    demand(is_answer(memory->returned, kind), "a number that is no answer of the call");
     demand(told ? five.answer == memory->returned : memory->returned == OCTALMURE_REFUSED, "the answer is not the number returned");
     demand(memcmp(memory->file.bytes + call->front, call->file, call->length) == 0, "the file changed");
     demand(memcmp(memory->table.bytes + call->front, call->table, call->table_length) == 0, "the table changed");
@@ -208,24 +236,43 @@ static bool wrote(const Memory *memory) {
 static void try_runs(const Call *call) {
     static Memory checked, carried;
     agree(call, check, &checked);
-    demand_laws(call, &checked, false);
+    demand_laws(call, &checked, VERDICT);
     demand_in_turn(call, &checked);
     agree(call, carry, &carried);
-    demand_laws(call, &carried, true);
+    demand_laws(call, &carried, WRITTEN);
     if (wrote(&carried)) {
         demand_carried(call, &carried, checked.returned);
+    }
+}
+
+/* What is told is a chain of the run, which is then an accepted one. */
+static void demand_chain(const Call *call, const Memory *told) {
+    static Memory checked;
+    uint32_t count = octalmure_decode(told->answer.bytes + call->front).code;
+    check(&archive, call, &checked);
+    demand(checked.returned <= OCTALMURE_LATE_FROM_H, "a chain of a run that is not accepted");
+    const char *wrong = chain_wrong(call->file, call->length, call->record, told->output.bytes + call->front, count);
+    demand(wrong == NULL, wrong);
+}
+
+static void try_chain(const Call *call) {
+    static Memory told;
+    agree(call, why, &told);
+    demand_laws(call, &told, CHAIN);
+    if (told.returned == OCTALMURE_CHAIN) {
+        demand_chain(call, &told);
     }
 }
 
 static void try_tables(const Call *call) {
     static Memory imported, exported;
     agree(call, import, &imported);
-    demand_laws(call, &imported, true);
+    demand_laws(call, &imported, WRITTEN);
     if (wrote(&imported)) {
         demand_imported(call, &imported);
     }
     agree(call, export, &exported);
-    demand_laws(call, &exported, true);
+    demand_laws(call, &exported, WRITTEN);
     if (wrote(&exported)) {
         demand_exported(call, &exported);
     }
@@ -242,9 +289,11 @@ void try_input(const uint8_t *input, size_t length) {
                        .table = input + got + file_length,
                        .table_length = rest - file_length,
                        .horizon = octalmure_number(head),
+                       .record = octalmure_number(head + 10),
                        .output_length = (head[4] | (size_t)head[5] << 8) % (MOST_OUTPUT + 1),
                        .answer_length = answer_length_of(head[6]),
                        .front = CANARY + head[7] % ALIGNMENTS};
     try_runs(&call);
+    try_chain(&call);
     try_tables(&call);
 }

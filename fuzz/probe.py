@@ -19,7 +19,7 @@ PROBE = """\tlea -128(%rsp), %rsp
 \tadcb $0, probe_counts+{0}(%rip)
 \tpopfq
 \tlea 128(%rsp), %rsp"""
-PUBLIC = {f".text.octalmure_{call}": f"probed_{call}" for call in ("check", "carry", "import", "export")}
+PUBLIC = {f".text.octalmure_{call}": f"probed_{call}" for call in ("check", "carry", "import", "export", "why")}
 INSTRUCTION = re.compile(r"^\s*([0-9a-f]+):\t([0-9a-f ]+?)\s*\t(\S+)\s*(.*)$")
 RELOCATION = re.compile(r"^([0-9a-f]+) (R_X86_64_\w+)\s+(\S+?)([+-]0x[0-9a-f]+)?$")
 SECTION = re.compile(r"^(?:Disassembly of section|Contents of section|RELOCATION RECORDS FOR) \[?(.+?)\]?:$")
@@ -70,11 +70,18 @@ class Writer:
         self.edges.append(f"{section} {start} {end}")
         return PROBE.format(len(self.edges) - 1)
 
-    def detour(self, section, start, end):
-        """A label that leads to the end by way of a probe."""
+    def detour(self, section, start, end, place=None):
+        """A label that leads to the end, which is a place of the section if no other is given, by way of a probe."""
         label = f"T{len(self.edges)}"
-        self.detours.append(f"{label}:\n{self.probe(section, start, end)}\n\tjmp {self.source.labels[section]}_{end}")
+        self.detours.append(f"{label}:\n{self.probe(section, start, end)}\n\tjmp {place or f'{self.source.labels[section]}_{end}'}")
         return label
+
+    def elsewhere(self, section, at, raw):
+        """Where a jump leads that leaves its section: to the front of a function that is called last of all. None if it stays."""
+        for place in self.related(section, at, raw):
+            _, symbol, plus = self.source.relocations[section][place]
+            return f"{self.source.symbol(symbol)}{plus + 4:+}"
+        return None
 
     def function(self, section):
         own = self.source.labels[section]
@@ -89,10 +96,10 @@ class Writer:
 
     def instruction(self, section, at, raw, name, operands):
         if name == "jmp" and not operands.startswith("*"):
-            print(f"\tjmp {self.source.labels[section]}_{operands.split()[0]}")
+            print(f"\tjmp {self.elsewhere(section, int(at, 16), raw) or f'{self.source.labels[section]}_{operands.split()[0]}'}")
         elif name.startswith("j") and name != "jmp":
-            after = f"{int(at, 16) + len(raw):x}"
-            print(f"\t{name} {self.detour(section, at, operands.split()[0])}\n{self.probe(section, at, after)}")
+            after, away = f"{int(at, 16) + len(raw):x}", self.elsewhere(section, int(at, 16), raw)
+            print(f"\t{name} {self.detour(section, at, away or operands.split()[0], away)}\n{self.probe(section, at, after)}")
         elif name == "call" and operands.split()[0] == "0" and not self.related(section, int(at, 16), raw):
             print(f"\tcall {self.source.labels[section]}")
         else:

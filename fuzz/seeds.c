@@ -1,6 +1,7 @@
 /* seeds FOLDER COUNT RUN...: writes inputs to begin with: each run file with its table, carried to its own horizon and to a longer
-   one; runs in which a job waits for the one before it; COUNT of the cases of tests/independent, short ones but for a few, and the
-   first that breaks each rule; and a table of each kind that is made there. */
+   one, and asked about its first, second and last record, and without any room about the one after; runs in which a job waits for
+   the one before it; COUNT of the cases of tests/independent, short ones but for a few, and the first that breaks each rule; and a
+   table of each kind that is made there. */
 #include <stdbool.h>
 #include <stdio.h>
 #include <stdlib.h>
@@ -19,7 +20,7 @@ enum { WHOLE_FILE = 12948, WHOLE_ANSWER = 20 };
 typedef struct {
     const uint8_t *file, *table;
     size_t length, table_length, output_length, answer_length;
-    uint32_t horizon;
+    uint32_t horizon, record;
 } Input;
 
 static int written;
@@ -37,6 +38,7 @@ static void write_input(const char *folder, const Input *input) {
     put(head + 4, input->output_length, 2);
     head[6] = (uint8_t)(input->answer_length < WHOLE_ANSWER ? input->answer_length : WHOLE_ANSWER);
     put(head + 8, input->length, 2);
+    put(head + 10, input->record, 4);
     snprintf(path, sizeof path, "%s/%03d", folder, written++);
     FILE *out = fopen(path, "wb");
     bool whole = out != NULL && fwrite(head, 1, sizeof head, out) == sizeof head &&
@@ -46,6 +48,14 @@ static void write_input(const char *folder, const Input *input) {
         fprintf(stderr, "seeds: %s cannot be written\n", path);
         exit(1);
     }
+}
+
+/* Of a whole file; 0 if there is none. */
+static uint32_t last_record(const uint8_t *file, size_t length) {
+    enum { AT_TASK_COUNT = 12, AT_TASKS = 16, TASK_BYTES = 20 };
+    size_t at = length < AT_TASKS ? length : AT_TASKS + TASK_BYTES * (size_t)file[AT_TASK_COUNT];
+    uint32_t count = at + 2 > length ? 0 : file[at] | (uint32_t)file[at + 1] << 8;
+    return count > 0 ? count - 1 : 0;
 }
 
 static void write_run(const char *folder, const char *name) {
@@ -65,6 +75,12 @@ static void write_run(const char *folder, const char *name) {
     input.horizon = input.length < 12 ? 0 : file[8] | (uint32_t)file[9] << 8 | (uint32_t)file[10] << 16;
     write_input(folder, &input);
     input.horizon += LONGER;
+    input.record = 1;
+    write_input(folder, &input);
+    input.record = last_record(file, input.length);
+    write_input(folder, &input);
+    input.record++;
+    input.output_length = 0;
     write_input(folder, &input);
 }
 
@@ -116,6 +132,7 @@ static void write_waitings(const char *folder) {
                                            .length = length,
                                            .table = file,
                                            .horizon = waiting->horizon,
+                                           .record = 1, /* the one that waits, or does not */
                                            .output_length = MOST_OUTPUT,
                                            .answer_length = WHOLE_ANSWER});
     }
@@ -126,6 +143,7 @@ static void write_case(const char *folder, const Case *made) {
                                        .length = made->length,
                                        .table = made->file,
                                        .horizon = made->horizon,
+                                       .record = last_record(made->file, made->length),
                                        .output_length = made->output_length,
                                        .answer_length = made->carry_answer_length});
 }

@@ -1,13 +1,13 @@
 /* lend: makes the calls that come on standard input, and leaves on standard output what each returned and all that it was lent.
-   A call is five numbers, which call (0 import, 1 export) and the lengths of file, table, output and answer, then the file, then
-   the table. Numbers are of four bytes, low byte first. Of each call there comes the number returned, and then file, table, output
-   and answer, each with GUARD bytes in front and behind. Where nothing is given, byte number i is 37 i + 11, counted from the first
-   of the guard. */
+   A call is five numbers, which call (0 import, 1 export, 2 why) and the lengths of file, table, output and answer, then the file,
+   then the table; for why the number of the record stands in the table's place. Numbers are of four bytes, low byte first. Of each
+   call there comes the number returned, and then file, table, output and answer, each with GUARD bytes in front and behind. Where
+   nothing is given, byte number i is 37 i + 11, counted from the first of the guard. */
 #include <octalmure.h>
 #include <stdio.h>
 #include <stdlib.h>
 
-enum { GUARD = 16, NUMBERS = 5, IMPORT = 0 };
+enum { GUARD = 16, NUMBERS = 5, IMPORT = 0, EXPORT = 1 };
 
 typedef struct {
     uint8_t *memory, *bytes;
@@ -42,20 +42,27 @@ static void leave(Slice slice) {
     free(slice.memory);
 }
 
+static uint32_t answer_to(uint32_t call, Slice file, Slice table, Slice output, Slice answer) {
+    if (call == IMPORT) {
+        return octalmure_import(file.bytes, file.length, table.bytes, table.length, output.bytes, output.length, answer.bytes,
+                                answer.length);
+    }
+    if (call == EXPORT) {
+        return octalmure_export(file.bytes, file.length, output.bytes, output.length, answer.bytes, answer.length);
+    }
+    demand(table.length == OCTALMURE_NUMBER_BYTES, "no number of a record");
+    return octalmure_why(file.bytes, file.length, octalmure_number(table.bytes), output.bytes, output.length, answer.bytes,
+                         answer.length);
+}
+
 static void make_call(const uint8_t *head) {
-    uint32_t n[NUMBERS], answered;
+    uint32_t n[NUMBERS];
     uint8_t returned[OCTALMURE_NUMBER_BYTES];
     for (size_t i = 0; i < NUMBERS; i++) {
         n[i] = octalmure_number(head + OCTALMURE_NUMBER_BYTES * i);
     }
     Slice file = lend_given(n[1]), table = lend_given(n[2]), output = lend(n[3]), answer = lend(n[4]);
-    if (n[0] == IMPORT) {
-        answered = octalmure_import(file.bytes, file.length, table.bytes, table.length, output.bytes, output.length, answer.bytes,
-                                    answer.length);
-    } else {
-        answered = octalmure_export(file.bytes, file.length, output.bytes, output.length, answer.bytes, answer.length);
-    }
-    octalmure_put_number(returned, answered);
+    octalmure_put_number(returned, answer_to(n[0], file, table, output, answer));
     demand(fwrite(returned, 1, sizeof returned, stdout) == sizeof returned, "standard output cannot be written");
     leave(file);
     leave(table);

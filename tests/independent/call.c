@@ -4,7 +4,7 @@
 #include <stdio.h>
 #include <string.h>
 
-enum { REFUSED = 4, WRITTEN = 5 };
+enum { REFUSED = 4, WRITTEN = 5, CHAIN = 6, NUMBER_BYTES = 4 };
 
 /* ---- lent slices ---- */
 
@@ -107,7 +107,22 @@ void call_export(const Subject *subject, Bytes file, size_t output_length, size_
                                       answer_length));
 }
 
+void call_why(const Subject *subject, Bytes file, uint32_t record, size_t output_length, size_t answer_length, Call *call) {
+    lend_all(call, file, no_table(), output_length, answer_length);
+    note_answer(call, subject->why(slice(&call->file), file.length, record, slice(&call->output), output_length,
+                                   slice(&call->answer), answer_length));
+}
+
 /* ---- what holds of calls ---- */
+
+/* How many bytes of the output the call says that it wrote. */
+static size_t written_by(const Call *call) {
+    size_t code = call->numbers[1];
+    if (!call->answered || call->returned < WRITTEN) {
+        return 0;
+    }
+    return call->returned == CHAIN ? NUMBER_BYTES * code : code;
+}
 
 static bool untouched(Lent *lent, Bytes given) {
     return canaries_whole(lent) && (given.length == 0 || memcmp(slice(lent), given.bytes, given.length) == 0);
@@ -115,7 +130,7 @@ static bool untouched(Lent *lent, Bytes given) {
 
 /* What holds of every call, whatever the answer. Returns what is wrong, or NULL. */
 static const char *broken_law(Call *call) {
-    uint32_t written = call->answered && call->returned == WRITTEN ? call->numbers[1] : 0;
+    size_t written = written_by(call);
     if (!untouched(&call->file, call->given_file)) {
         return "the file slice or what is around it changed";
     }

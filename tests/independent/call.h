@@ -35,6 +35,7 @@ void call_check(const Subject *subject, Bytes file, size_t answer_length, Call *
 void call_carry(const Subject *subject, Bytes file, uint32_t horizon, size_t output_length, size_t answer_length, Call *call);
 void call_import(const Subject *subject, Bytes file, Bytes table, size_t output_length, size_t answer_length, Call *call);
 void call_export(const Subject *subject, Bytes file, size_t output_length, size_t answer_length, Call *call);
+void call_why(const Subject *subject, Bytes file, uint32_t record, size_t output_length, size_t answer_length, Call *call);
 
 /* Compares a call of the subject and the same call of the oracle, and holds both to what holds of every call. Returns what is
    wrong, or NULL. */

@@ -2,6 +2,7 @@
 
 #include <string.h>
 
+#include "filed.h"
 #include "server.h"
 #include "spoil.h"
 
@@ -14,7 +15,7 @@ static void put(Case *made, uint32_t number) {
     }
 }
 
-static void write_file(const Run *run, Case *made) {
+void write_file(const Run *run, Case *made) {
     made->length = 0;
     put(made, 2);
     put(made, run->cores);

@@ -4,9 +4,9 @@
 
 #include <stdint.h>
 
-/* How many rules and refusals there are; both are numbered from 1. The first eleven refusals are those of check and carry, and
-   import and export have the others. */
-enum { RULES = 9, CARRY_REFUSALS = 11, REFUSALS = 14 };
+/* How many rules there are, and the greatest refusal; both are numbered from 1. The first eleven refusals are those of check and
+   carry; import and export have 12 to 14 too, and why has 20. */
+enum { RULES = 9, CARRY_REFUSALS = 11, REFUSALS = 20 };
 
 enum { MOST_CORES = 16, MOST_TASKS = 32, MOST_JOBS = 512, MOST_TICKS = 1000000 };
 

@@ -1,6 +1,8 @@
-/* harness SEED COUNT [PATH]         holds the library to the oracle on COUNT files and as many tables
+/* harness SEED COUNT [PATH]         holds the library to the oracle on COUNT files, as many tables, and a quarter as many runs of
+                                     which is asked why
    harness --self SEED COUNT [PATH]  holds the oracle to itself, to the laws of the slices and to a word by word reading
-   PATH gets the first file that they differ on, PATH.table the first table, and PATH.file the file that was given with it.
+   PATH gets the first file that they differ on, PATH.table the first table, and PATH.file the file that was given with it; PATH.why
+   the first of which why differs.
    Both try the worked runs of the paper, the runs and tables worked by hand for its requests, and the long files and tables of the
    seed too. */
 #include <inttypes.h>
@@ -12,6 +14,8 @@
 #include "apart.h"
 #include "call.h"
 #include "cases.h"
+#include "causes.h"
+#include "chains.h"
 #include "entries.h"
 #include "exchange.h"
 #include "following.h"
@@ -21,6 +25,7 @@
 #include "long.h"
 #include "oracle.h"
 #include "subject.h"
+#include "whys.h"
 #include "worked.h"
 
 #ifndef ORACLE_ONLY
@@ -31,9 +36,11 @@ extern uint32_t octalmure_import(const uint8_t *file, size_t file_length, const 
                                  uint8_t *output, size_t output_length, uint8_t *answer, size_t answer_length);
 extern uint32_t octalmure_export(const uint8_t *file, size_t file_length, uint8_t *output, size_t output_length, uint8_t *answer,
                                  size_t answer_length);
+extern uint32_t octalmure_why(const uint8_t *file, size_t file_length, uint32_t record, uint8_t *output, size_t output_length,
+                              uint8_t *answer, size_t answer_length);
 #endif
 
-enum { RULE_BROKEN = 3, REFUSED = 4, CARRIED = 5, MOST_REPORTS = 20, ENOUGH_CASES = 50000, RULE_ONCE_IN = 100 };
+enum { RULE_BROKEN = 3, REFUSED = 4, CARRIED = 5, MOST_REPORTS = 20, ENOUGH_CASES = 50000, RULE_ONCE_IN = 100, WHY_ONCE_IN = 4 };
 
 /* ---- what was met ---- */
 
@@ -126,7 +133,7 @@ typedef struct {
     Call subject_call, oracle_call;
 } Trial;
 
-static const Subject the_oracle = {"oracle", oracle_check, oracle_carry, oracle_import, oracle_export};
+static const Subject the_oracle = {"oracle", oracle_check, oracle_carry, oracle_import, oracle_export, oracle_why};
 
 /* Reports the first few in full; the file of the first stays at the path. */
 static void report(Trial *trial, uint64_t number, const char *call, const char *wrong) {
@@ -297,6 +304,7 @@ static int try_all(Trial *trial, uint64_t count) {
     Counted sum = try_worked_runs(trial->subject);
     add(&sum, try_following_runs(trial->subject));
     add(&sum, try_handmade_tables(trial->subject));
+    add(&sum, try_chains(trial->subject));
     for (uint64_t number = 0; number < count; number++) {
         count_case(&sum, try_case(trial, number));
     }
@@ -308,6 +316,7 @@ static int try_all(Trial *trial, uint64_t count) {
     }
     const Asked asked = {trial->subject, &the_oracle, trial->self, trial->seed, trial->path};
     add(&sum, try_tables(&asked, count, count >= ENOUGH_CASES));
+    add(&sum, try_whys(&asked, count / WHY_ONCE_IN, count >= ENOUGH_CASES));
     printf("%" PRIu64 " passed, %" PRIu64 " failed\n", sum.passed, sum.failed);
     return sum.failed == 0 ? EXIT_SUCCESS : EXIT_FAILURE;
 }
@@ -316,7 +325,7 @@ static const Subject *the_library(void) {
 #ifdef ORACLE_ONLY
     return NULL;
 #else
-    static const Subject library = {"library", octalmure_check, octalmure_carry, octalmure_import, octalmure_export};
+    static const Subject library = {"library", octalmure_check, octalmure_carry, octalmure_import, octalmure_export, octalmure_why};
     return &library;
 #endif
 }

@@ -9,6 +9,7 @@
 #include "parts.h"
 #include "reprint.h"
 #include "tables.h"
+#include "teller.h"
 
 enum { MOST_REPORTS = 20, FILE_REFUSALS = 8, MOST_PATH = 4096 };
 
@@ -42,29 +43,6 @@ static void meet(Met *met, const Call *call, size_t exact) {
     }
 }
 
-/* Prints counts, and counts those that are 0. */
-typedef struct {
-    uint64_t never;
-} Teller;
-
-static void tell(Teller *teller, const char *name, uint64_t count) {
-    printf(" %s:%" PRIu64 "%s", name, count, count == 0 ? " (never met)" : "");
-    teller->never += count == 0;
-}
-
-static void tell_numbers(Teller *teller, const char *what, const uint64_t *counts, const uint32_t *numbers, size_t count) {
-    printf("  %-9s", what);
-    for (size_t i = 0; i < count; i++) {
-        char name[12];
-        snprintf(name, sizeof name, "%" PRIu32, numbers[i]);
-        tell(teller, name, counts[numbers[i]]);
-    }
-    printf("\n");
-}
-
-#define TELL_NUMBERS(teller, what, counts, ...)                                                                                    \
-    tell_numbers(teller, what, counts, (const uint32_t[]){__VA_ARGS__}, sizeof((const uint32_t[]){__VA_ARGS__}) / 4)
-
 static void tell_slices(Teller *teller, const Met *met) {
     uint64_t refused = 0;
     for (uint32_t i = 1; i <= REFUSALS; i++) {
@@ -83,16 +61,6 @@ static void tell_slices(Teller *teller, const Met *met) {
     tell(teller, "exact", met->exact);
     tell(teller, "longer", met->longer);
     printf("\n");
-}
-
-static void tell_names(Teller *teller, const char *what, const uint64_t *counts, uint32_t count, const char *(*name)(uint32_t)) {
-    enum { IN_A_LINE = 8 };
-    printf("  %s", what);
-    for (uint32_t i = 0; i < count; i++) {
-        printf("%s", i > 0 && i % IN_A_LINE == 0 ? "\n   " : "");
-        tell(teller, name(i), counts[i]);
-        printf("%s", i + 1 < count ? "," : "\n");
-    }
 }
 
 static const char *name_of_origin(uint32_t origin) {

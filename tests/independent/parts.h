@@ -9,8 +9,8 @@
 
 enum { ANSWER_BYTES = 20 };
 
-/* The answers by their numbers. What writes a file or a table is answered with the last. */
-enum { ACCEPTED, LATE_BEFORE_HORIZON, LATE_FROM_HORIZON, RULE_BROKEN, REFUSED, WRITTEN };
+/* The answers by their numbers. What writes a file or a table is answered with WRITTEN, and what writes a chain with the last. */
+enum { ACCEPTED, LATE_BEFORE_HORIZON, LATE_FROM_HORIZON, RULE_BROKEN, REFUSED, WRITTEN, CHAIN };
 
 typedef struct {
     uint32_t cores, horizon, task_count, record_count;
@@ -29,6 +29,8 @@ static inline Answer refusal(uint32_t number, uint32_t place) {
 
 /* Reads the run of a file. Says why the file is refused, or some other answer. */
 Answer oracle_read(const uint8_t *file, size_t length, Run *run);
+/* Says which rule the run breaks, and where, or what is late of it. */
+Answer oracle_judge(const Run *run);
 /* How many bytes the file of a run has, and the file. */
 size_t oracle_size(const Run *run);
 void oracle_write(const Run *run, uint8_t *bytes);

@@ -14,6 +14,8 @@ typedef struct {
                        size_t output_length, uint8_t *answer, size_t answer_length);
     uint32_t (*export)(const uint8_t *file, size_t length, uint8_t *output, size_t output_length, uint8_t *answer,
                        size_t answer_length);
+    uint32_t (*why)(const uint8_t *file, size_t length, uint32_t record, uint8_t *output, size_t output_length, uint8_t *answer,
+                    size_t answer_length);
 } Subject;
 
 #endif

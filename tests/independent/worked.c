@@ -64,6 +64,21 @@ bool carry_says(const Subject *subject, const char *name, const uint32_t *number
     return says(name, answer, returned, expected) && right;
 }
 
+bool why_says(const Subject *subject, const char *name, const uint32_t *numbers, size_t count, uint32_t record,
+              const uint32_t *expected, const uint32_t *chain, size_t chain_count) {
+    uint8_t file[4 * MOST_NUMBERS], answer[20] = {0}, output[LENT_BYTES], whole[LENT_BYTES];
+    memset(output, 0xEE, sizeof output);
+    memset(whole, 0xEE, sizeof whole);
+    write_numbers(chain, chain_count, whole);
+    size_t length = write_numbers(numbers, count, file);
+    uint32_t returned = subject->why(file, length, record, output, sizeof output, answer, sizeof answer);
+    bool right = memcmp(output, whole, sizeof output) == 0;
+    if (!right) {
+        printf("%s, record %" PRIu32 ": not the request's chain\n", name, record);
+    }
+    return says(name, answer, returned, expected) && right;
+}
+
 /* N = 1 and a task that always runs: the job released at t runs from t to t + 1. */
 static size_t always_running(uint32_t horizon, uint32_t *numbers) {
     const uint32_t front[] = {2, 1, horizon, 1, 1, 1, 1, 0, 0, horizon};

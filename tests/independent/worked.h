@@ -18,6 +18,10 @@ bool check_says(const Subject *subject, const char *name, const uint32_t *number
 bool carry_says(const Subject *subject, const char *name, const uint32_t *numbers, size_t count, uint32_t horizon,
                 const uint32_t *expected, const uint32_t *carried, size_t carried_count);
 
+/* Of a chain: whether it writes these numbers, and nothing else. */
+bool why_says(const Subject *subject, const char *name, const uint32_t *numbers, size_t count, uint32_t record,
+              const uint32_t *expected, const uint32_t *chain, size_t chain_count);
+
 Counted try_worked_runs(const Subject *subject);
 
 #endif

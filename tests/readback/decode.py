@@ -1,6 +1,6 @@
 #!/usr/bin/env python3
 """What 'octalmure show' and 'octalmure say' print, read back and held to the numbers of the file: the examples, cases by seed, runs
-of any numbers, and files that are cut off.
+of any numbers, and files that are cut off. What 'octalmure why' and 'octalmure explain' print, of the examples and the cases.
 
   decode.py [SEED COUNT]
 """
@@ -21,12 +21,13 @@ sys.path[:0] = [str(ROOT / "tests" / part) for part in ("interface", "files", "r
 from counts import finish
 from pictured import hold_picture
 from ready import command, generated
+from reread import reasons_read_back
 from said import hold_sentences
 from shown import File, Shown, Wrong, hold, hold_said, hold_tables
 
 SEED, COUNT = (int(word) for word in sys.argv[1:]) if len(sys.argv) == 3 else (5, 300)
 WIDTHS = (80, 240, 1000)
-WILD, LEAST_FINE, TOP = 90, 100, 2**32 - 1
+WILD, LEAST_FINE, EXPLAINED, TOP = 90, 100, 150, 2**32 - 1
 FINER = "a picture that is finer where there is more room"
 TO_MEET = {FINER, *(f"rule {number}" for number in range(1, 10)), *(f"refusal {number}" for number in range(1, 9))}
 
@@ -120,7 +121,8 @@ def try_file(words, path, met):
 def verdicts(room):
     words = command(room)
     by_seed = [path for path, _ in generated(room, SEED, 0, COUNT)]
-    paths = [*sorted((ROOT / "examples").glob("*.run")), *cut_off(room), *wild(room), *by_seed]
+    examples = sorted((ROOT / "examples").glob("*.run"))
+    paths = [*examples, *cut_off(room), *wild(room), *by_seed]
     met = set()
     with concurrent.futures.ThreadPoolExecutor(max(2, os.cpu_count() or 2)) as pool:
         held = [each for all_of in pool.map(lambda path: [*try_file(words, path, met)], paths) for each in all_of]
@@ -129,6 +131,7 @@ def verdicts(room):
     yield from (verdict for verdict, _ in held)
     yield from ((f"{what} was not met", what in met) for what in sorted(TO_MEET))
     yield "too few pictures were read back", kinds["fine"] >= LEAST_FINE and kinds["coarse"] > 0
+    yield from reasons_read_back(words, room, [*examples, *by_seed[:EXPLAINED]])
 
 
 with tempfile.TemporaryDirectory() as folder:

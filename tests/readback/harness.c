@@ -9,6 +9,7 @@
 #include <string.h>
 #include <unistd.h>
 
+#include "causes.h"
 #include "damage.h"
 #include "entries.h"
 #include "exchange.h"
@@ -16,6 +17,7 @@
 #include "spoken.h"
 
 enum { SHORT_RUN = 1000, LONG_STEP = 101, MOST_REPORTS = 20, TABLE_ROOM = 2 * OCTALMURE_MOST_TABLE_BYTES };
+enum { MOST_EXPLAINED = 40 }; /* of more late records 'explain' says so much that it would take too long */
 
 /* What COLUMNS says, NULL for nothing, and how wide a picture may then be: 40 at least, and 80 if it says nothing of use. */
 static const struct {
@@ -27,6 +29,7 @@ enum { WIDTHS = sizeof widths / sizeof widths[0] };
 
 static unsigned long passed, failed, answers[OCTALMURE_WRITTEN + 1], rules[RULES + 1], fine, coarse;
 static unsigned long exported, imported, refused[OCTALMURE_REFUSAL_NOT_RISING + 1]; /* refused: of files that are not, for a table */
+static unsigned long chains, chainless[OCTALMURE_REFUSAL_NO_SUCH_RECORD + 1], explained, explained_late;
 static const char *path;
 static char table_path[4096];
 static FILE *said;
@@ -71,7 +74,7 @@ static struct octalmure_answer check_of(const uint8_t *file, size_t length) {
 }
 
 static Status status_for(uint32_t answer) {
-    static const Status statuses[] = {FINE, FINE, FINE, BROKEN, REFUSED, FINE};
+    static const Status statuses[] = {FINE, FINE, FINE, BROKEN, REFUSED, FINE, FINE};
     return statuses[answer];
 }
 
@@ -201,6 +204,68 @@ static void try_tables(const Case *made, struct octalmure_answer checked) {
     try_import(made, checked, false);
 }
 
+/* The numbers of the chain on one line. */
+static bool is_chain(const Spoken *spoken, const uint8_t *chain, uint32_t count) {
+    const char *at = spoken->text;
+    for (uint32_t i = 0; i < count; i++) {
+        char number[12], behind = i + 1 < count ? ' ' : '\n';
+        int length = snprintf(number, sizeof number, "%" PRIu32 "%c", octalmure_number(chain + 4 * (size_t)i), behind);
+        if (strncmp(at, number, (size_t)length) != 0) {
+            return false;
+        }
+        at += length;
+    }
+    return *at == '\0';
+}
+
+static void try_why(const Case *made, uint32_t record) {
+    uint8_t chain[OCTALMURE_MOST_CHAIN_BYTES], bytes[OCTALMURE_ANSWER_BYTES];
+    char number[12];
+    snprintf(number, sizeof number, "%" PRIu32, record);
+    oracle_why(made->file, made->length, record, chain, sizeof chain, bytes, sizeof bytes);
+    struct octalmure_answer answer = octalmure_decode(bytes);
+    bool told = answer.answer == OCTALMURE_CHAIN;
+    Spoken spoken = speak("why", path, number);
+    hold(made, spoken.status == status_for(answer.answer) && spoken.quiet, "why: another status, or not quiet");
+    hold(made, told ? is_chain(&spoken, chain, answer.code) : is_line(&spoken, answer), "why: not the chain, or not the line");
+    free(spoken.text);
+    chains += told;
+    chainless[told ? 0 : answer.code]++;
+}
+
+/* Some record of the file, and one that there is not. */
+static void try_whys(const Case *made, struct octalmure_answer checked) {
+    static Chance chance;
+    uint32_t records = 0;
+    if (checked.answer != OCTALMURE_REFUSED) {
+        uint32_t tasks = octalmure_number(made->file + OCTALMURE_SETTING_BYTES);
+        records = octalmure_number(made->file + OCTALMURE_FILE_BYTES((size_t)tasks, 0) - OCTALMURE_NUMBER_BYTES);
+    }
+    try_why(made, below(&chance, (uint64_t)records + 1));
+    try_why(made, one_in(&chance, 2) ? records : UINT32_MAX - below(&chance, 2));
+}
+
+/* Of every late record there is a paragraph; the document is one line. */
+static void try_explain(const Case *made, struct octalmure_answer answer) {
+    size_t late = late_of(answer);
+    if (late > MOST_EXPLAINED) {
+        return;
+    }
+    Status status = status_for(answer.answer);
+    Spoken spoken = speak("explain", path, NULL), json = speak_json(path);
+    hold(made, spoken.status == status && spoken.quiet, "explain: another status, or not quiet");
+    hold(made, json.status == status && json.quiet, "explain --json: another status, or not quiet");
+    hold(made, is_plain(&spoken) && is_plain(&json), "explain: no plain text");
+    hold(made, lines_that_begin(&spoken, "Late: ") == late, "explain: not every late record, or more");
+    hold(made, lines_that_begin(&spoken, "  The sum: ") == late, "explain: not the sum of every late record, or more");
+    hold(made, lines_that_begin(&json, "{\"octalmure\": ") == 1 && strchr(json.text, '\n') == json.text + json.length - 1,
+         "explain --json: no document on one line");
+    free(spoken.text);
+    free(json.text);
+    explained++;
+    explained_late += late;
+}
+
 /* At two widths, which change from file to file. */
 static void try_file(const Case *made) {
     static size_t width;
@@ -211,6 +276,8 @@ static void try_file(const Case *made) {
     try_check(made, answer);
     try_say(made, answer);
     try_tables(made, answer);
+    try_whys(made, answer);
+    try_explain(made, answer);
     try_show(made, answer, width++ % WIDTHS);
     try_show(made, answer, width % WIDTHS);
 }
@@ -251,6 +318,17 @@ static void try_seed(uint64_t seed, uint64_t count) {
             make_noise(&made, &chance);
             try_file(&made);
         }
+    }
+}
+
+/* How often a chain was told, and each refusal that can stand in its place but 11: the command lends room for every chain. */
+static void print_chains(void) {
+    static const uint32_t in_its_place[] = {1, 2, 3, 4, 5, 6, 7, 8, 10, 20};
+    fprintf(said, "harness: %lu chains; %lu files explained, with %lu late records\n", chains, explained, explained_late);
+    failed += chains == 0 || explained_late == 0;
+    for (size_t i = 0; i < sizeof in_its_place / sizeof in_its_place[0]; i++) {
+        fprintf(said, "harness: refusal %" PRIu32 " for a chain: %lu\n", in_its_place[i], chainless[in_its_place[i]]);
+        failed += chainless[in_its_place[i]] == 0;
     }
 }
 
@@ -299,6 +377,7 @@ int main(int argc, char **argv) {
         try_fronts(argv[i]);
     }
     print_met();
+    print_chains();
     fprintf(said, "%lu passed, %lu failed\n", passed, failed);
     return failed == 0 ? EXIT_SUCCESS : EXIT_FAILURE;
 }

@@ -17,17 +17,16 @@ static bool standard_output_is_empty(void) {
     return fstat(STDOUT_FILENO, &about) == 0 && about.st_size == 0;
 }
 
-Spoken speak(const char *word, const char *file, const char *behind) {
+static Spoken run_word(const char *word, const Asked *asked) {
     Spoken spoken = {0};
     Output output;
     char *errors = NULL;
     size_t errors_length = 0;
     FILE *kept = stderr;
-    Asked asked = {.given = {file, behind}, .count = behind != NULL ? 2 : 1};
     if (open_output(&output) != FINE || (stderr = open_memstream(&errors, &errors_length)) == NULL) {
         abort();
     }
-    spoken.status = find_word(word)->run(&asked, &output);
+    spoken.status = find_word(word)->run(asked, &output);
     fclose(stderr);
     stderr = kept;
     if (ferror(output.text) || fclose(output.text) != 0) {
@@ -38,6 +37,14 @@ Spoken speak(const char *word, const char *file, const char *behind) {
     spoken.quiet = errors_length == 0 && standard_output_is_empty();
     free(errors);
     return spoken;
+}
+
+Spoken speak(const char *word, const char *file, const char *behind) {
+    return run_word(word, &(Asked){.given = {file, behind}, .count = behind != NULL ? 2 : 1});
+}
+
+Spoken speak_json(const char *file) {
+    return run_word("explain", &(Asked){.given = {file}, .count = 1, .json = true});
 }
 
 /* ---- asking ---- */

@@ -15,9 +15,11 @@ typedef struct {
     bool quiet; /* nothing went to standard output or standard error */
 } Spoken;
 
-/* Runs a word as the command does, in this process. What stands behind the file, a horizon or a table, may be NULL. Standard output
-   must be a file. */
+/* Runs a word as the command does, in this process. What stands behind the file, a horizon, a table or a record, may be NULL.
+   Standard output must be a file. */
 Spoken speak(const char *word, const char *file, const char *behind);
+/* 'explain FILE --json'. */
+Spoken speak_json(const char *file);
 
 /* Whole lines of ASCII, at least one, and no other control byte than their line feeds. */
 bool is_plain(const Spoken *spoken);
