@@ -6,11 +6,6 @@ use mathlib.Core.Option.{some}
 use Rattle.model.specs.Model.{Run, IsRecord, rec, preceding, sum}
 use Rattle.model.specs.Rules.{OnOneCore}
 
--- the first job of a chain: the last of the list
-abbrev pub firstJob : ℕ → List ℕ → ℕ
-firstJob k [] = k
-firstJob k (j ∷ l) = firstJob j l
-
 module _ (ρ : Run) where
   -- job k started at its release
   abbrev pub AtRelease : ℕ → Type 0
@@ -39,9 +34,14 @@ module _ (ρ : Run) where
     first-job : {k : ℕ} → AtRelease k → Chain k (k ∷ [])
     waited : {k j : ℕ} {l : List ℕ} → Cause k j → Chain j l → Chain k (k ∷ l)
 
-  -- the length of a job, and those of all jobs in a chain together
+  -- The sum: the length of a job, and the lengths of all jobs in a chain; ..
   abbrev pub lengthOf : ℕ → ℕ
   lengthOf k = rec ρ k .end - rec ρ k .start
 
   abbrev pub lengths : List ℕ → ℕ
   lengths l = sum (map lengthOf l)
+
+-- .. and the first job of a chain, which is the last of the list.
+abbrev pub firstJob : ℕ → List ℕ → ℕ
+firstJob k [] = k
+firstJob k (j ∷ l) = firstJob j l
