@@ -1,9 +1,10 @@
--- Document 02, request 4: the chains of small runs, and each refusal at its border. One table under a single statement. Assumes nothing.
+-- Document 02, request 4: the chains of document 01's C1 and of other small runs, and each refusal at its border. One table under a single
+-- statement. Assumes nothing.
 use Prim.Native.Nat.{ℕ}
 use mathlib.Core.Path.{_≡_, refl}
 use mathlib.Core.List.{List, [], _∷_, map}
 use Rattle.model.specs.Answers.{Outcome, refusedWith, gateOutcome}
-use Rattle.model.proofs.Worked.{computed, file}
+use Rattle.model.proofs.Worked.{computed, file, C1, C6}
 use Rattle.causes.specs.FoundCause.{atRelease, ownEnded, coreEnded, causeOf, chainIn, chainOf}
 use Rattle.causes.specs.Why.{chainOut, chainRoom, whyRun, why}
 
@@ -19,32 +20,6 @@ ask b k room = record { asked-of = b; number = k; room = room }
 unfoldable computedWhy : List ℕ → ℕ → ℕ → Outcome
 unfolding computed gateOutcome atRelease ownEnded coreEnded causeOf chainIn chainOf chainOut chainRoom whyRun why
 computedWhy b k room = why b k room
-
--- C1 of document 01: set S, H = 20.
-abbrev C1 : List ℕ
-C1 =
-    file 2 20
-    (4 ∷ 10 ∷ 1 ∷ 2 ∷ 0 ∷ 1 ∷ 30 ∷ 6 ∷ 8 ∷ 0 ∷ 1 ∷ 60 ∷ 15 ∷ 17 ∷ 0 ∷ 2 ∷ 60 ∷ 15 ∷ 20 ∷ 0 ∷ 2 ∷ [])
-    (5
-    ∷ 0 ∷ 0 ∷ 1 ∷ 15 ∷ 17 ∷ 2
-    ∷ 0 ∷ 1 ∷ 10 ∷ 17 ∷ 19 ∷ 1
-    ∷ 1 ∷ 0 ∷ 1 ∷ 17 ∷ 25 ∷ 2
-    ∷ 2 ∷ 0 ∷ 0 ∷ 0 ∷ 17 ∷ 1
-    ∷ 3 ∷ 0 ∷ 0 ∷ 0 ∷ 15 ∷ 2
-    ∷ [])
-
--- the same with record 0 ending at 18, which breaks rule 4
-abbrev C6 : List ℕ
-C6 =
-    file 2 20
-    (4 ∷ 10 ∷ 1 ∷ 2 ∷ 0 ∷ 1 ∷ 30 ∷ 6 ∷ 8 ∷ 0 ∷ 1 ∷ 60 ∷ 15 ∷ 17 ∷ 0 ∷ 2 ∷ 60 ∷ 15 ∷ 20 ∷ 0 ∷ 2 ∷ [])
-    (5
-    ∷ 0 ∷ 0 ∷ 1 ∷ 15 ∷ 18 ∷ 2
-    ∷ 0 ∷ 1 ∷ 10 ∷ 17 ∷ 19 ∷ 1
-    ∷ 1 ∷ 0 ∷ 1 ∷ 17 ∷ 25 ∷ 2
-    ∷ 2 ∷ 0 ∷ 0 ∷ 0 ∷ 17 ∷ 1
-    ∷ 3 ∷ 0 ∷ 0 ∷ 0 ∷ 15 ∷ 2
-    ∷ [])
 
 -- One core, H = 6. Task 0: P 10, B 5, W 5, O 0, J 0. Task 1: P 10, B 1, W 1, O 5, J 0, released as the other ends.
 abbrev on-time : List ℕ

@@ -58,7 +58,7 @@ last-two =
     ∷ 3 ∷ 0 ∷ 0 ∷ 0 ∷ 15 ∷ 2
     ∷ []
 
-abbrev C1 : List ℕ
+abbrev pub C1 : List ℕ
 C1 =
     file 2 20 S
     ((5
@@ -103,7 +103,7 @@ C5 =
     ∷ [])
 
 -- C1 with record 0 ending at 18
-abbrev C6 : List ℕ
+abbrev pub C6 : List ℕ
 C6 =
     file 2 20 S
     ((5
