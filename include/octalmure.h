@@ -198,6 +198,14 @@ static inline int octalmure_apart(const uint8_t *a, size_t a_length, const uint8
     return a_length == 0 || b_length == 0 || from_a + a_length <= from_b || from_b + b_length <= from_a;
 }
 
+/* 1 if these can be slices and share no byte: what is only read, the output and the answer. */
+static inline int octalmure_lendable(const uint8_t *source, size_t source_length, const uint8_t *output, size_t output_length,
+                                     const uint8_t *answer, size_t answer_length) {
+    return octalmure_is_slice(source, source_length) && octalmure_is_slice(output, output_length) &&
+           octalmure_is_slice(answer, answer_length) && octalmure_apart(source, source_length, output, output_length) &&
+           octalmure_apart(source, source_length, answer, answer_length) && octalmure_apart(output, output_length, answer, answer_length);
+}
+
 static inline uint32_t octalmure_guarded_check(const uint8_t *file, size_t file_length, uint8_t *answer, size_t answer_length) {
     uint8_t nothing = 0; /* stands for a null pointer of length 0: the plain calls take none */
     if (!octalmure_is_slice(file, file_length) || !octalmure_is_slice(answer, answer_length) ||
@@ -210,10 +218,7 @@ static inline uint32_t octalmure_guarded_check(const uint8_t *file, size_t file_
 static inline uint32_t octalmure_guarded_carry(const uint8_t *file, size_t file_length, uint32_t horizon, uint8_t *output,
                                                size_t output_length, uint8_t *answer, size_t answer_length) {
     uint8_t nothing = 0;
-    if (!octalmure_is_slice(file, file_length) || !octalmure_is_slice(output, output_length) ||
-        !octalmure_is_slice(answer, answer_length) || !octalmure_apart(file, file_length, output, output_length) ||
-        !octalmure_apart(file, file_length, answer, answer_length) ||
-        !octalmure_apart(output, output_length, answer, answer_length)) {
+    if (!octalmure_lendable(file, file_length, output, output_length, answer, answer_length)) {
         return OCTALMURE_REFUSED;
     }
     return octalmure_carry(file ? file : &nothing, file_length, horizon, output ? output : &nothing, output_length,
@@ -223,11 +228,8 @@ static inline uint32_t octalmure_guarded_carry(const uint8_t *file, size_t file_
 static inline uint32_t octalmure_guarded_import(const uint8_t *file, size_t file_length, const uint8_t *table, size_t table_length,
                                                 uint8_t *output, size_t output_length, uint8_t *answer, size_t answer_length) {
     uint8_t nothing = 0;
-    if (!octalmure_is_slice(file, file_length) || !octalmure_is_slice(table, table_length) ||
-        !octalmure_is_slice(output, output_length) || !octalmure_is_slice(answer, answer_length) ||
-        !octalmure_apart(file, file_length, output, output_length) || !octalmure_apart(table, table_length, output, output_length) ||
-        !octalmure_apart(file, file_length, answer, answer_length) || !octalmure_apart(table, table_length, answer, answer_length) ||
-        !octalmure_apart(output, output_length, answer, answer_length)) {
+    if (!octalmure_lendable(file, file_length, output, output_length, answer, answer_length) ||
+        !octalmure_lendable(table, table_length, output, output_length, answer, answer_length)) {
         return OCTALMURE_REFUSED;
     }
     return octalmure_import(file ? file : &nothing, file_length, table ? table : &nothing, table_length, output ? output : &nothing,
@@ -237,10 +239,7 @@ static inline uint32_t octalmure_guarded_import(const uint8_t *file, size_t file
 static inline uint32_t octalmure_guarded_export(const uint8_t *file, size_t file_length, uint8_t *output, size_t output_length,
                                                 uint8_t *answer, size_t answer_length) {
     uint8_t nothing = 0;
-    if (!octalmure_is_slice(file, file_length) || !octalmure_is_slice(output, output_length) ||
-        !octalmure_is_slice(answer, answer_length) || !octalmure_apart(file, file_length, output, output_length) ||
-        !octalmure_apart(file, file_length, answer, answer_length) ||
-        !octalmure_apart(output, output_length, answer, answer_length)) {
+    if (!octalmure_lendable(file, file_length, output, output_length, answer, answer_length)) {
         return OCTALMURE_REFUSED;
     }
     return octalmure_export(file ? file : &nothing, file_length, output ? output : &nothing, output_length,
@@ -250,10 +249,7 @@ static inline uint32_t octalmure_guarded_export(const uint8_t *file, size_t file
 static inline uint32_t octalmure_guarded_why(const uint8_t *file, size_t file_length, uint32_t record, uint8_t *output,
                                              size_t output_length, uint8_t *answer, size_t answer_length) {
     uint8_t nothing = 0;
-    if (!octalmure_is_slice(file, file_length) || !octalmure_is_slice(output, output_length) ||
-        !octalmure_is_slice(answer, answer_length) || !octalmure_apart(file, file_length, output, output_length) ||
-        !octalmure_apart(file, file_length, answer, answer_length) ||
-        !octalmure_apart(output, output_length, answer, answer_length)) {
+    if (!octalmure_lendable(file, file_length, output, output_length, answer, answer_length)) {
         return OCTALMURE_REFUSED;
     }
     return octalmure_why(file ? file : &nothing, file_length, record, output ? output : &nothing, output_length,
