@@ -43,6 +43,44 @@ def hold_stop(file, lines):
     hold(numbers(lines[1]) == expected, f"it stops at {expected}, and it says '{lines[1]}'")
 
 
+def one_or_two(least, greatest):
+    """A range as it is told."""
+    return [least, greatest] if greatest > least else [least]
+
+
+def hold_release(file, k, *told):
+    task, job, release = file.records[k][:3]
+    period, _, _, offset, jitter = file.tasks[task]
+    least = job * period + offset
+    hold([*told] == [release, *one_or_two(least, least + jitter)], f"record {k} is released at {release}, and may be from {least} on")
+    hold(not least <= release <= least + jitter, f"record {k} is released when it may be")
+
+
+def hold_start(file, k, *told):
+    release, start = file.records[k][2:4]
+    hold([*told] == [start, release] and start < release, f"record {k} starts at {start} and is released at {release}")
+
+
+def hold_length(file, k, *told):
+    task, _, _, start, end, _ = file.records[k]
+    _, least, greatest, _, _ = file.tasks[task]
+    expected = [end, start] if end < start else [start, end, end - start, *one_or_two(least, greatest)]
+    hold([*told] == expected and not least <= end - start <= greatest, f"record {k} is as long as it may be, or not {told}")
+
+
+def hold_core(file, k, *told):
+    core, cores = file.records[k][5], file.setting[0]
+    hold([*told] == [core, *one_or_two(1, cores)] and not 1 <= core <= cores, f"record {k} is on core {core} of {cores}")
+
+
+def hold_overlap(file, a, *told):
+    """The core stands behind the first record, and the number of the second behind the instants of that."""
+    core, start, end, b, start_b, end_b = told
+    first, second = file.records[a], file.records[b]
+    hold((first[3:], second[3:]) == ((start, end, core), (start_b, end_b, core)), f"records {a} and {b} run otherwise")
+    hold(a < b and start < end_b and start_b < end, f"records {a} and {b} do not overlap")
+
+
 def hold_order(file, a, start, b, ready):
     first, second = file.records[a], file.records[b]
     hold((start, ready) == (first[3], file.ready(b)), f"record {a} starts at {first[3]}, and record {b} is ready at {file.ready(b)}")
@@ -60,15 +98,30 @@ def hold_turn(file, k, start, before, end):
     hold((start, end) == (file.records[k][3], file.records[before][4]) and start < end, f"record {k} starts at its turn")
 
 
+# how many numbers the place of a rule is told with, and what is held of them
+PLACES = {2: (hold_release, (3, 4)), 3: (hold_start, (3,)), 4: (hold_length, (3, 5, 6)), 5: (hold_core, (3, 4)), 6: (hold_overlap, (7,)),
+          7: (hold_order, (4,)), 8: (hold_idling, (5,)), 9: (hold_turn, (4,))}
+
+
+def hold_jobs(file, lines):
+    """Rule 1: the number at which records and jobs differ, and the job of the record there."""
+    jobs = [(i, j) for i, task in enumerate(file.tasks) for j in range(max(0, -(-(file.setting[1] - task[3]) // task[0])))]
+    records = [record[:2] for record in file.records]
+    k = next(k for k in range(len(jobs) + 1) if jobs[k:k + 1] != records[k:k + 1])
+    hold(numbers(lines[1]) == [k, 0, *(records[k] if k < len(records) else ())], f"they differ at {k}, and it says '{lines[1]}'")
+
+
 def hold_place(file, lines):
-    """Of a run that breaks rule 7, 8 or 9: the numbers of the place are those of the file, and it is broken there."""
+    """Of a run that breaks a rule: the numbers of the place are those of the file, and it is broken there."""
     rule = re.match(r"Not permitted: rule (\d+) \(", lines[0])
     hold(rule and len(lines) > 1, f"broken, and it says {lines}")
-    told, count = {7: (hold_order, 4), 8: (hold_idling, 5), 9: (hold_turn, 4)}.get(int(rule[1]), (None, 0))
-    if told:
-        place = numbers(re.sub(NAME, r"\1", lines[1]))
-        hold(len(place) == count, f"it says '{lines[1]}'")
-        told(file, *place)
+    if int(rule[1]) == 1:
+        hold_jobs(file, lines)
+        return
+    told, counts = PLACES[int(rule[1])]
+    place = numbers(re.sub(NAME, r"\1", lines[1]))
+    hold(len(place) in counts, f"it says '{lines[1]}'")
+    told(file, *place)
 
 
 def hold_names(file, lines):

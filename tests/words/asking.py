@@ -31,7 +31,7 @@ WRONG = ([], ["measure", "c1.run"], [""], ["check"], ["check", "c1.run", "c2.run
 def scheme(room):
     for name, (checked, horizon, said) in SCHEME.items():
         file = f"{name}.run"
-        for words in (["check", file], ["show", file], ["say", file], *([["explain", file]] if name != "longest" else [])):
+        for words in (["check", file], ["show", file], ["say", file], ["explain", file]):
             done = room.run(*words)
             yield f"{words}: {seen(done)}", done.returncode == checked and done.stdout and not done.stderr
         done = room.run("say", file, horizon)

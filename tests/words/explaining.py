@@ -15,8 +15,6 @@ KEYS = ["octalmure", "answer", "code", "place", "verdict", "sentences", "rule", 
 VERSION = re.search(r'OCTALMURE_VERSION "(.*)"', (ROOT / "include" / "octalmure.h").read_text())[1]
 NO_REASONS = "No reasons are given for a run that is not permitted."
 SEED, BY_SEED = 17, 30
-# 496 records of this example are late, and of their reasons 24 MB would be told: its chains alone are asked for
-LONG = "longest.run"
 
 
 # ---- runs by seed ----
@@ -144,9 +142,9 @@ def runs(room, place):
     """Every kind of run: each form, and chains."""
     subprocess.run([sys.executable, "-B", ROOT / "tests" / "words" / "spoil.py", room.runs / "c1.run", place], check=True)
     for path in (*sorted(room.runs.glob("*.run")), *sorted(place.glob("*.run"))):
-        yield from explained(room, path) if path.name != LONG else chains(room, path, 73)
-    for name in ("c1", "c2", "turned", "desk"):
-        yield from chains(room, room.runs / f"{name}.run")
+        yield from explained(room, path)
+    for name, every in (("c1", 1), ("c2", 1), ("turned", 1), ("desk", 1), ("longest", 73)):
+        yield from chains(room, room.runs / f"{name}.run", every)
     for name, every in (("ties", 1), ("both", 1), ("met", 1), ("held", 1), ("sixteen", 5), ("greatest", 73)):
         yield from chains(room, place / f"{name}.run", every)
     late = 0

@@ -32,8 +32,12 @@ def spoiled(run, changes):
 SPOILED = {
     "two-late": {task(1, "P"): 20},
     "rule-2": {record(0, "r"): 2},
+    "rule-2-no-jitter": {task(0, "J"): 0},
     "rule-3": {record(0, "s"): 0},
+    "rule-4-back": {record(0, "e"): 9},
+    "rule-4-one-tick": {task(0, "B"): 2, record(0, "e"): 16},
     "rule-5": {record(0, "core"): 3},
+    "rule-5-one-core": {1: 1},
     "rule-6": {record(0, "core"): 1},
     "rule-7": {
         record(0, "s"): 17, record(0, "e"): 19, record(0, "core"): 1,
