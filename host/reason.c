@@ -33,9 +33,12 @@ uint32_t late_records(const Layout *layout, uint32_t numbers[OCTALMURE_MOST_JOBS
 
 /* ---- the chain of one ---- */
 
-/* By rules 4 and 9 of the jobs of its own task only the preceding one can have ended when it started. */
+/* The library's cause is the preceding job of the task if that ended at this start, and else a job on the same core: so it is that of
+   the core exactly if it is not the preceding job. */
 static void join(Link *link, const Job *cause) {
-    link->began = cause->record.task == link->job.record.task ? AFTER_PRECEDING_JOB : AFTER_JOB_ON_CORE;
+    const struct octalmure_record *record = &link->job.record, *other = &cause->record;
+    bool preceding = other->task == record->task && other->job + 1 == record->job;
+    link->began = preceding ? AFTER_PRECEDING_JOB : AFTER_JOB_ON_CORE;
     link->due_sooner = link->job.deadline < cause->deadline;
 }
 

@@ -32,17 +32,22 @@ static void *run(void *given) {
     return NULL;
 }
 
-/* As many tasks and records as a file can have. Every number of a record has ten digits, and the last record starts first: the table
-   is the longest, and its lines are in the opposite order. */
-static void make_longest(uint8_t *at) {
-    const struct octalmure_setting setting = {.cores = OCTALMURE_MOST_CORES, .horizon = 1};
-    const struct octalmure_task task = {.period = 1, .least = 1, .greatest = 1, .offset = 0, .jitter = 0};
+/* What stands before the records, of which there are as many as a file can have: as many tasks as it can have, all alike. */
+static uint8_t *put_front(uint8_t *at, struct octalmure_setting setting, struct octalmure_task task) {
     at = octalmure_put_setting(at, setting);
     at = octalmure_put_number(at, OCTALMURE_MOST_TASKS);
     for (uint32_t i = 0; i < OCTALMURE_MOST_TASKS; i++) {
         at = octalmure_put_task(at, task);
     }
-    at = octalmure_put_number(at, OCTALMURE_MOST_JOBS);
+    return octalmure_put_number(at, OCTALMURE_MOST_JOBS);
+}
+
+/* As many tasks and records as a file can have. Every number of a record has ten digits, and the last record starts first: the table
+   is the longest, and its lines are in the opposite order. */
+static void make_longest(uint8_t *at) {
+    const struct octalmure_setting setting = {.cores = OCTALMURE_MOST_CORES, .horizon = 1};
+    const struct octalmure_task task = {.period = 1, .least = 1, .greatest = 1, .offset = 0, .jitter = 0};
+    at = put_front(at, setting, task);
     for (uint32_t k = 0; k < OCTALMURE_MOST_JOBS; k++) {
         struct octalmure_record record = {UINT32_MAX, UINT32_MAX, UINT32_MAX, UINT32_MAX, UINT32_MAX, UINT32_MAX};
         record.task -= (OCTALMURE_MOST_JOBS - k) / 2;
@@ -58,12 +63,7 @@ static void make_chained(uint8_t *at) {
     enum { JOBS = OCTALMURE_MOST_JOBS / OCTALMURE_MOST_TASKS, PERIOD = 2 * OCTALMURE_MOST_TASKS };
     const struct octalmure_setting setting = {.cores = 1, .horizon = JOBS * PERIOD};
     const struct octalmure_task task = {.period = PERIOD, .least = 2, .greatest = 3, .offset = 0, .jitter = 0};
-    at = octalmure_put_setting(at, setting);
-    at = octalmure_put_number(at, OCTALMURE_MOST_TASKS);
-    for (uint32_t i = 0; i < OCTALMURE_MOST_TASKS; i++) {
-        at = octalmure_put_task(at, task);
-    }
-    at = octalmure_put_number(at, OCTALMURE_MOST_JOBS);
+    at = put_front(at, setting, task);
     for (uint32_t k = 0; k < OCTALMURE_MOST_JOBS; k++) {
         uint32_t i = k / JOBS, j = k % JOBS, release = j * PERIOD, start = release + 2 * i + (k > 0);
         struct octalmure_record record = {i, j, release, start, release + 2 * i + 3, 1};
