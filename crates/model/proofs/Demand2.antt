@@ -1,12 +1,12 @@
 -- Demand 2 on definitions: accepted exactly if all rules hold; otherwise the lowest broken rule and its first place; the late
 -- jobs counted exactly. Assumes nothing.
-use Prim.Native.Nat.{ℕ, zero, suc, _≤_, _<_}
+use Prim.Native.Nat.{_≤_, _<_}
 use mathlib.Core.Path.{_≡_, refl, sym, _∙_, ap}
 use mathlib.Core.Logic.{_↔_}
 use native.Mathlib.Omega.{arith}
 use lib.ListN.{length}
-use Rattle.base.specs.First.{Number}
-use Rattle.model.specs.Model.{Run, IsRecord}
+use Rattle.base.proofs.Count.{none-number}
+use Rattle.model.specs.Model.{Run}
 use Rattle.model.specs.Rules.{Rule, rule, Place, Holds, Obeys, FirstPlace}
 use Rattle.model.specs.Answers.{Five, number, Late, LateRecords, ruleBroken, Verdict}
 use Rattle.model.specs.Compute.Verdict.{verdict}
@@ -17,10 +17,7 @@ use Rattle.model.proofs.Verdict.{verdict-iff}
 module _ (ρ : Run) where
   -- what an accepted run is told: the answer is 0, 1 or 2, and the code counts the late records
   accepted-row : (f : Five) → Verdict ρ f → f .answer ≤ 2 → Obeys ρ × LateRecords ρ (f .code)
-  accepted-row f (Verdict.in-time O h) l = (O, none-late (length (ρ .records)) (λ k u. h k u))
-    where
-      none-late : (n : ℕ) → ((k : ℕ) → k < n → ¬ Late ρ k) → Number (Late ρ) n 0
-      none-late = elim [ zero ↦ λ g. Number.nothing | suc (n → ih) ↦ λ g. Number.fails (ih (λ k u. g k (omega arith))) (g n (omega arith)) ]
+  accepted-row f (Verdict.in-time O h) l = (O, none-number (Late ρ) (length (ρ .records)) h)
   accepted-row f (Verdict.late-before-H O N F) l = (O, N)
   accepted-row f (Verdict.late-from-H O N h F) l = (O, N)
   accepted-row f (Verdict.rule-broken ν L F) l = absurd (omega arith)
