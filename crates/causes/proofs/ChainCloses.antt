@@ -8,9 +8,9 @@ use native.Mathlib.Omega.{arith}
 use native.Mathlib.Decide.{ℕ-discrete}
 use lib.ListN.{length, getD}
 use Rattle.base.proofs.Searches.{total-number}
-use Rattle.model.specs.Model.{Run, WithinLimits, IsRecord, rec}
+use Rattle.model.specs.Model.{Run, WithinLimits, IsRecord, rec, lengths}
 use Rattle.model.specs.Rules.{Obeys, rule3, rule4}
-use Rattle.causes.specs.Cause.{AtRelease, Cause, Chain, firstJob, lengths}
+use Rattle.causes.specs.Cause.{AtRelease, Cause, Chain, firstJob}
 use Rattle.causes.specs.FoundCause.{onwards, chainIn, chainOf}
 use Rattle.causes.proofs.Pigeons.{no-more}
 use Rattle.causes.proofs.WhoseEnd.{cause-earlier, cause-waited, has-cause, cause-found, no-cause-found, cause-once}

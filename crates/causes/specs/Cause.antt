@@ -1,9 +1,9 @@
 -- Document 02, request 4: why a job began when it did, whose end it waited for, and the chain of causes.
-use Prim.Native.Nat.{ℕ, _-_}
+use Prim.Native.Nat.{ℕ}
 use mathlib.Core.Path.{_≡_}
-use mathlib.Core.List.{List, [], _∷_, map}
+use mathlib.Core.List.{List, [], _∷_}
 use mathlib.Core.Option.{some}
-use Rattle.model.specs.Model.{Run, IsRecord, rec, preceding, sum}
+use Rattle.model.specs.Model.{Run, IsRecord, rec, preceding}
 use Rattle.model.specs.Rules.{OnOneCore}
 
 module _ (ρ : Run) where
@@ -34,14 +34,7 @@ module _ (ρ : Run) where
     first-job : {k : ℕ} → AtRelease k → Chain k (k ∷ [])
     waited : {k j : ℕ} {l : List ℕ} → Cause k j → Chain j l → Chain k (k ∷ l)
 
-  -- The sum: the length of a job, and the lengths of all jobs in a chain; ..
-  abbrev pub lengthOf : ℕ → ℕ
-  lengthOf k = rec ρ k .end - rec ρ k .start
-
-  abbrev pub lengths : List ℕ → ℕ
-  lengths l = sum (map lengthOf l)
-
--- .. and the first job of a chain, which is the last of the list.
+-- The first job of a chain, which is the last of the list.
 abbrev pub firstJob : ℕ → List ℕ → ℕ
 firstJob k [] = k
 firstJob k (j ∷ l) = firstJob j l

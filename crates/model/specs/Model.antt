@@ -1,7 +1,7 @@
 -- Document 01, "The model in numbers", and document 02, request 3: when a job is ready. Times are whole ticks.
 use Prim.Native.Nat.{ℕ, zero, suc, _+_, _*_, _-_, _/_, _≤_, _<_, max}
 use mathlib.Core.Bool.{Bool, _&&_}
-use mathlib.Core.List.{List, [], _∷_, _++_}
+use mathlib.Core.List.{List, [], _∷_, _++_, map}
 use mathlib.Core.Option.{Option, none, some}
 use lib.Dec.{eqb}
 use lib.ListN.{length, getD}
@@ -165,6 +165,13 @@ module _ (ρ : Run) where
   -- A job is ready at the later of its release and the end of its task's preceding job, if there is one.
   unfoldable pub ready : ℕ → ℕ
   ready k = max (rec k .release) (endBefore k)
+
+  -- the length of record k, and the sum of the lengths of several
+  abbrev pub lengthOf : ℕ → ℕ
+  lengthOf k = rec k .end - rec k .start
+
+  abbrev pub lengths : List ℕ → ℕ
+  lengths l = sum (map lengthOf l)
 
   -- the jobs of the run that exist at a horizon
   unfoldable pub existing : ℕ → List Job

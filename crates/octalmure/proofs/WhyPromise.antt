@@ -11,7 +11,7 @@ use denote.Ref.{now}
 use contract.Lifetimes.{Lfts}
 use denote.Triple.Clauses.{AtExit}
 use borrow.Fn.Kinds.{Dens, endedOf}
-use Rattle.model.specs.Model.{Run, WithinLimits, IsRecord, rec}
+use Rattle.model.specs.Model.{Run, WithinLimits, IsRecord, rec, lengths}
 use Rattle.model.specs.Rules.{Obeys}
 use Rattle.model.specs.Answers.{Outcome, refusal, refusedWith}
 use Rattle.model.specs.File.{Bytes, FourBytes, whole, read, num, bytesOf}
@@ -19,7 +19,7 @@ use Rattle.model.specs.Calls.{answerSize, fiveIn}
 use Rattle.model.proofs.FiveFit.{FiveFit, output-told}
 use Rattle.model.proofs.Reading.{read-limits}
 use Rattle.model.proofs.RoundTrip.{num-at}
-use Rattle.causes.specs.Cause.{AtRelease, Cause, Chain, firstJob, lengths}
+use Rattle.causes.specs.Cause.{AtRelease, Cause, Chain, firstJob}
 use Rattle.causes.specs.Why.{chainOut, why, WhySays, whyCall, chainBytes, WhyRow}
 use Rattle.causes.proofs.ChainCloses.{begins-with, each-link, first-at-release, closes, chain-once, all-records, starts-fall, none-twice, no-longer, adds-up}
 use Rattle.causes.proofs.WhyAnswers.{why-says, why-comes, every-why-answered, why-fits}
