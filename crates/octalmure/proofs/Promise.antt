@@ -82,6 +82,10 @@ module _ {b a a′ : List ℕ} {r : ℕ} (C : Checks b a r a′) where
   pub says : answerSize ≤ length a → (fiveIn a′ ≡ check b) × (r ≡ check b .answer) × (drop answerSize a′ ≡ drop answerSize a)
   says = check-told b (C .of-bytes) a _ is-check
 
+  -- what the call accepts the checker accepts
+  pub call-accepts : r ≤ 2 → check b .answer ≤ 2
+  call-accepts accepted = subst (λ n. n ≤ 2) (says (long-enough (λ e. omega (arith, e))) .1) accepted
+
 module _ {b o a o′ a′ : List ℕ} {H′ r : ℕ} (C : Carries b H′ o a r o′ a′) where
   is-carry : record { returns = r; output = o′; answer = a′ } ≡ carryCall b H′ o a
   is-carry =
@@ -231,7 +235,7 @@ module _ {b a a′ : List ℕ} {r : ℕ} (C : Checks b a r a′) (accepted : r �
       (n₂ ∙ ap (λ f. f .answer) e ∙ sym n, f₂ ∙ e ∙ sym f)
     where
       reads : read b ≡ whole (runIn b)
-      reads = accepted-reads b (subst (λ n. n ≤ 2) (says C (long-enough C (λ e. omega (arith, e))) .1) accepted)
+      reads = accepted-reads b (call-accepts C accepted)
 
   pub widened-is-late-the-same : (k : ℕ) → Late (withTasks (runIn b) σs) k ↔ Late (runIn b) k
   widened-is-late-the-same = widened-same-late (runIn b) σs wider

@@ -1,0 +1,6 @@
+pub mod Sums
+pub mod BusyCores
+pub mod BoundedWait
+pub mod OneSet
+pub mod AcceptedFile
+pub mod WaitTable

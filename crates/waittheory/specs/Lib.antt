@@ -1,0 +1,2 @@
+pub mod WaitBound
+pub mod BusyCores
