@@ -10,6 +10,7 @@
 #include "exchange.h"
 #include "input.h"
 #include "oracle.h"
+#include "waits.h"
 
 /* The archive's code with probes, see probe.py. */
 extern uint32_t probed_check(const uint8_t *file, size_t file_length, uint8_t *answer, size_t answer_length);
@@ -197,6 +198,12 @@ static void demand_in_turn(const Call *call, const Memory *checked) {
     }
 }
 
+/* In an accepted run N times a wait is at most what all other records take. */
+static void demand_bounded(const Call *call, const Memory *checked) {
+    const char *wrong = checked->returned > OCTALMURE_LATE_FROM_H ? NULL : waits_wrong(call->file, call->length);
+    demand(wrong == NULL, wrong);
+}
+
 /* The carried run is accepted, and lateness that was shown stays shown. */
 static void demand_carried(const Call *call, const Memory *carried, uint32_t before) {
     static Memory memory;
@@ -204,6 +211,7 @@ static void demand_carried(const Call *call, const Memory *carried, uint32_t bef
     agree(&again, check, &memory);
     demand(memory.returned <= OCTALMURE_LATE_FROM_H, "the carried run is not accepted");
     demand_in_turn(&again, &memory);
+    demand_bounded(&again, &memory);
     demand(before != OCTALMURE_LATE_BEFORE_H || memory.returned == OCTALMURE_LATE_BEFORE_H, "lateness before H did not stay");
 }
 
@@ -238,6 +246,7 @@ static void try_runs(const Call *call) {
     agree(call, check, &checked);
     demand_laws(call, &checked, VERDICT);
     demand_in_turn(call, &checked);
+    demand_bounded(call, &checked);
     agree(call, carry, &carried);
     demand_laws(call, &carried, WRITTEN);
     if (wrote(&carried)) {

@@ -12,6 +12,7 @@
 #include <string.h>
 
 #include "apart.h"
+#include "bounds.h"
 #include "call.h"
 #include "cases.h"
 #include "causes.h"
@@ -25,6 +26,7 @@
 #include "long.h"
 #include "oracle.h"
 #include "subject.h"
+#include "waits.h"
 #include "whys.h"
 #include "worked.h"
 
@@ -51,8 +53,9 @@ typedef struct {
 typedef struct {
     Met check, carry, carried;
     Apart apart;
+    Waits waits;
     uint64_t not_carried[RULES + 1]; /* which rule is broken by a run that is refused with 10 */
-    uint64_t literal_rules[RULES + 1], literal_carried;
+    uint64_t literal_rules[RULES + 1], literal_carried, literal_waits;
 } Tally;
 
 static void meet(Met *met, const Call *call) {
@@ -116,7 +119,7 @@ static uint64_t never_met_at_all(const Tally *tally, uint64_t cases) {
 static uint64_t never_read(const Tally *tally) {
     const uint64_t *rules = tally->literal_rules, *carried = &tally->literal_carried;
     return never_met("tick by tick, broken rule", rules, rules, 0, 0) + never_met("tick by tick, rule", rules, rules, 7, RULES) +
-           never_met("tick by tick, carried file", carried, carried, 0, 0);
+           never_met("tick by tick, carried file", carried, carried, 0, 0) + (tally->literal_waits == 0);
 }
 
 /* ---- the trial of a case ---- */
@@ -170,6 +173,19 @@ static const char *judge_literally(Trial *trial) {
     return same ? NULL : "rules 7 to 9, read tick by tick, say otherwise";
 }
 
+/* What is promised of the waits of a run that the subject accepts. */
+static const char *judge_waits(Trial *trial, Bytes file) {
+    const Call *call = &trial->subject_call;
+    if (!call->answered || call->returned >= RULE_BROKEN) {
+        return NULL;
+    }
+    const char *wrong = waits_wrong(file.bytes, file.length);
+    meet_waits(&trial->tally.waits, file.bytes, file.length);
+    bool by_ticks = trial->self && literal_applies(file.bytes);
+    trial->tally.literal_waits += by_ticks;
+    return wrong == NULL && by_ticks ? waits_wrong_by_ticks(file.bytes, file.length) : wrong;
+}
+
 static const char *try_check(Trial *trial) {
     const Case *made = &trial->made;
     call_check(trial->subject, file_of(trial), made->check_answer_length, &trial->subject_call);
@@ -181,7 +197,8 @@ static const char *try_check(Trial *trial) {
     if (made->permitted && trial->oracle_call.answered && trial->oracle_call.returned >= RULE_BROKEN) {
         return "the run of a server without a fault is not accepted";
     }
-    return first_of(judge_calls(&trial->subject_call, &trial->oracle_call), judge_literally(trial));
+    const char *wrong = first_of(judge_calls(&trial->subject_call, &trial->oracle_call), judge_literally(trial));
+    return wrong == NULL ? judge_waits(trial, file_of(trial)) : wrong;
 }
 
 /* Which rule a run breaks that is not carried for it. */
@@ -204,6 +221,17 @@ static const char *try_carry(Trial *trial) {
     return judge_calls(&trial->subject_call, &trial->oracle_call);
 }
 
+/* A file that is carried to its own H is another run of the same set, mostly: each is held to what the other's tasks allow. */
+static const char *judge_set(Trial *trial, Bytes carried) {
+    Bytes file = file_of(trial);
+    if (!of_one_set(file.bytes, file.length, carried.bytes, carried.length)) {
+        return NULL;
+    }
+    meet_set(&trial->tally.waits, carried.bytes, carried.length, file.bytes, file.length);
+    return first_of(waits_wrong_by_set(carried.bytes, carried.length, file.bytes, file.length),
+                    waits_wrong_by_set(file.bytes, file.length, carried.bytes, carried.length));
+}
+
 /* The outputs are known to be the same file: both checkers must accept it. */
 static const char *try_carried_file(Trial *trial) {
     uint8_t carried[MOST_CASE_BYTES];
@@ -222,7 +250,9 @@ static const char *try_carried_file(Trial *trial) {
             return "carrying, read tick by tick, says otherwise";
         }
     }
-    return judge_calls(&trial->subject_call, &trial->oracle_call);
+    const char *wrong = judge_calls(&trial->subject_call, &trial->oracle_call);
+    wrong = wrong == NULL ? judge_waits(trial, file) : wrong;
+    return wrong == NULL ? judge_set(trial, file) : wrong;
 }
 
 /* Whether the case went without a difference. Carrying is tried even where checking differs: it tells more. */
@@ -266,7 +296,8 @@ static void print_tally(const Trial *trial) {
     print_counts("answers", trial->tally.carried.answers, 0, 3);
     if (trial->self) {
         const uint64_t *rules = trial->tally.literal_rules;
-        printf("read tick by tick\n  accepted %" PRIu64 ", carried files %" PRIu64 "\n", rules[0], trial->tally.literal_carried);
+        printf("read tick by tick\n  accepted %" PRIu64 ", carried files %" PRIu64 ", waits of %" PRIu64 " files\n", rules[0],
+               trial->tally.literal_carried, trial->tally.literal_waits);
         print_counts("rules", rules, 7, RULES);
     }
 }
@@ -305,11 +336,12 @@ static int try_all(Trial *trial, uint64_t count) {
     add(&sum, try_following_runs(trial->subject));
     add(&sum, try_handmade_tables(trial->subject));
     add(&sum, try_chains(trial->subject));
+    add(&sum, try_bounds(trial->subject, &trial->tally.waits));
     for (uint64_t number = 0; number < count; number++) {
         count_case(&sum, try_case(trial, number));
     }
     print_tally(trial);
-    uint64_t never = tell_apart(&trial->tally.apart);
+    uint64_t never = tell_apart(&trial->tally.apart) + tell_waits(&trial->tally.waits);
     try_long_cases(trial, &sum);
     if (count >= ENOUGH_CASES) {
         sum.failed += never + never_met_at_all(&trial->tally, count) + (trial->self ? never_read(&trial->tally) : 0);
