@@ -1,6 +1,6 @@
 #!/usr/bin/env python3
 """Writes the paper's worked runs, runs in which a job is released before the one before it of its task has ended, a desk's run with
-the names of its blocks, and the longest run file, as run files beside this script, and the records of each that is not refused as a
+the names of its blocks, one in which a block waits as long as its bound, and the longest run file, as run files beside this script, and the records of each that is not refused as a
 text table.
 
   make.py [FOLDER]
@@ -70,6 +70,11 @@ RUNS = {
             (0, 0, 12, 38, 43, 1), (0, 1, 35, 43, 48, 1), (1, 0, 30, 41, 50, 2), (1, 1, 42, 50, 57, 2),
             (2, 0, 0, 0, 38, 1), (3, 0, 2, 2, 41, 2),
         ],
+    ),
+    # Two blocks of 3 ticks hold both cores, and a third, ready with them, waits until both end: 2 cores times its wait of 3 are just
+    # the 6 ticks that the two others take. It is due at 3, as they are, and is late, from H on.
+    "attained": (
+        2, 1, [(3, 3, 4, 0, 0), (3, 3, 4, 0, 0), (3, 1, 1, 0, 0)], [(0, 0, 0, 0, 3, 1), (1, 0, 0, 0, 3, 2), (2, 0, 0, 3, 4, 1)],
     ),
     # 32 tasks with 16 jobs each, released at 32j, two ticks long, on one core: they start one after the other, by job and then by
     # task, half of them from H on. Job j of task i ends at 64j + 2i + 2 and is due at 32j + 32, so it is in time only if j = 0 and

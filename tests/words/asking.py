@@ -13,7 +13,7 @@ from trial import ROOT, seen, text, told
 # refused is exported, and takes a table, whether its run breaks a rule or not.
 SCHEME = {"c1": (0, 30, 0), "c2": (0, 20, 0), "c4": (0, 30, 0), "c5": (1, 30, 1), "c6": (1, 30, 1), "c7": (1, 30, 1), "c8": (3, 30, 3),
           "c9": (0, 512, 0), "c10": (3, 513, 3), "c11": (0, 1, 0), "beside": (1, 3, 1), "turn": (0, 9, 0), "turned": (0, 9, 0),
-          "desk": (0, 60, 0), "longest": (0, 512, 0)}
+          "desk": (0, 60, 0), "attained": (0, 4, 0), "longest": (0, 512, 0)}
 WRONG = ([], ["measure", "c1.run"], [""], ["check"], ["check", "c1.run", "c2.run"], ["carry", "c1.run"], ["carry", "c1.run", "30", "31"],
          ["carry", "c1.run", "twenty"], ["carry", "c1.run", ""], ["carry", "c1.run", "3x"], ["carry", "c1.run", " 3"],
          ["carry", "c1.run", "+30"], ["carry", "c1.run", "-20"], ["carry", "c1.run", "30", "-o"], ["check", "c1.run", "-o", "out"],
