@@ -1,10 +1,9 @@
 #include "apart.h"
 
-#include <inttypes.h>
 #include <stdbool.h>
-#include <stdio.h>
 
 #include "parts.h"
+#include "teller.h"
 
 static const char *const names[PARTINGS] = {
     [FOLLOWS] = "accepted: a job starts as the one before it ends, later than its release",
@@ -185,11 +184,5 @@ void meet_carried(Apart *apart, const uint8_t *file, size_t length, const uint8_
 /* ---- */
 
 uint64_t tell_apart(const Apart *apart) {
-    uint64_t never = 0;
-    printf("jobs that wait for the one before them\n");
-    for (uint32_t i = 0; i < PARTINGS; i++) {
-        printf("  %-84s %" PRIu64 "%s\n", names[i], apart->met[i], apart->met[i] == 0 ? " (never met)" : "");
-        never += apart->met[i] == 0;
-    }
-    return never;
+    return tell_lines("jobs that wait for the one before them", apart->met, names, PARTINGS);
 }

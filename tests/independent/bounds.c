@@ -3,6 +3,8 @@
 #include <inttypes.h>
 #include <stdio.h>
 
+#include "waits.h"
+
 /* Files are given as their numbers: 2, N and H; the task count, and P, B, W, O and J of each task; the record count, and task, job,
    r, s, e and core of each record. */
 typedef struct {
@@ -67,7 +69,9 @@ static const Worked worked[] = {
 enum { MOST_NUMBERS = 300 };
 
 static bool has_bound(const Worked *run, const uint8_t *file) {
-    Bound told = oracle_bound(file, 4 * run->count, run->record), right = run->bound;
+    static Bound bounds[MOST_JOBS];
+    oracle_bounds(file, 4 * run->count, bounds);
+    Bound told = bounds[run->record], right = run->bound;
     bool same = told.wait == right.wait && told.on_cores == right.on_cores && told.lengths == right.lengths &&
                 told.greatest == right.greatest;
     if (!same) {
@@ -86,7 +90,7 @@ static bool bounded(const Worked *run, const uint8_t *file) {
     return wrong == NULL;
 }
 
-Counted try_bounds(const Subject *subject, Waits *waits) {
+Counted try_bounds(const Subject *subject, Near *near) {
     Counted sum = {0, 0};
     for (size_t i = 0; i < sizeof worked / sizeof *worked; i++) {
         const Worked *run = &worked[i];
@@ -96,7 +100,7 @@ Counted try_bounds(const Subject *subject, Waits *waits) {
         }
         bool right = check_says(subject, run->name, run->numbers, run->count, run->said);
         right = has_bound(run, file) && bounded(run, file) && right;
-        meet_waits(waits, file, 4 * run->count);
+        meet_waits(near, file, 4 * run->count);
         sum.passed += right;
         sum.failed += !right;
     }

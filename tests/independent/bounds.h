@@ -2,11 +2,11 @@
 #ifndef OCTALMURE_BOUNDS_H
 #define OCTALMURE_BOUNDS_H
 
+#include "near.h"
 #include "subject.h"
-#include "waits.h"
 #include "worked.h"
 
 /* The subject must accept each run, and the checker's own reading give the numbers; what is met in them is counted, too. */
-Counted try_bounds(const Subject *subject, Waits *waits);
+Counted try_bounds(const Subject *subject, Near *near);
 
 #endif

@@ -24,6 +24,7 @@
 #include "inout.h"
 #include "literal.h"
 #include "long.h"
+#include "near.h"
 #include "oracle.h"
 #include "subject.h"
 #include "waits.h"
@@ -53,7 +54,7 @@ typedef struct {
 typedef struct {
     Met check, carry, carried;
     Apart apart;
-    Waits waits;
+    Near near;
     uint64_t not_carried[RULES + 1]; /* which rule is broken by a run that is refused with 10 */
     uint64_t literal_rules[RULES + 1], literal_carried, literal_waits;
 } Tally;
@@ -117,9 +118,10 @@ static uint64_t never_met_at_all(const Tally *tally, uint64_t cases) {
 
 /* What the oracle's own test read tick by tick. */
 static uint64_t never_read(const Tally *tally) {
-    const uint64_t *rules = tally->literal_rules, *carried = &tally->literal_carried;
+    const uint64_t *rules = tally->literal_rules, *carried = &tally->literal_carried, *waits = &tally->literal_waits;
     return never_met("tick by tick, broken rule", rules, rules, 0, 0) + never_met("tick by tick, rule", rules, rules, 7, RULES) +
-           never_met("tick by tick, carried file", carried, carried, 0, 0) + (tally->literal_waits == 0);
+           never_met("tick by tick, carried file", carried, carried, 0, 0) +
+           never_met("tick by tick, waits of a file", waits, waits, 0, 0);
 }
 
 /* ---- the trial of a case ---- */
@@ -180,7 +182,7 @@ static const char *judge_waits(Trial *trial, Bytes file) {
         return NULL;
     }
     const char *wrong = waits_wrong(file.bytes, file.length);
-    meet_waits(&trial->tally.waits, file.bytes, file.length);
+    meet_waits(&trial->tally.near, file.bytes, file.length);
     bool by_ticks = trial->self && literal_applies(file.bytes);
     trial->tally.literal_waits += by_ticks;
     return wrong == NULL && by_ticks ? waits_wrong_by_ticks(file.bytes, file.length) : wrong;
@@ -227,7 +229,7 @@ static const char *judge_set(Trial *trial, Bytes carried) {
     if (!of_one_set(file.bytes, file.length, carried.bytes, carried.length)) {
         return NULL;
     }
-    meet_set(&trial->tally.waits, carried.bytes, carried.length, file.bytes, file.length);
+    meet_set(&trial->tally.near, carried.bytes, carried.length, file.bytes, file.length);
     return first_of(waits_wrong_by_set(carried.bytes, carried.length, file.bytes, file.length),
                     waits_wrong_by_set(file.bytes, file.length, carried.bytes, carried.length));
 }
@@ -336,12 +338,12 @@ static int try_all(Trial *trial, uint64_t count) {
     add(&sum, try_following_runs(trial->subject));
     add(&sum, try_handmade_tables(trial->subject));
     add(&sum, try_chains(trial->subject));
-    add(&sum, try_bounds(trial->subject, &trial->tally.waits));
+    add(&sum, try_bounds(trial->subject, &trial->tally.near));
     for (uint64_t number = 0; number < count; number++) {
         count_case(&sum, try_case(trial, number));
     }
     print_tally(trial);
-    uint64_t never = tell_apart(&trial->tally.apart) + tell_waits(&trial->tally.waits);
+    uint64_t never = tell_apart(&trial->tally.apart) + tell_near(&trial->tally.near);
     try_long_cases(trial, &sum);
     if (count >= ENOUGH_CASES) {
         sum.failed += never + never_met_at_all(&trial->tally, count) + (trial->self ? never_read(&trial->tally) : 0);

@@ -1,10 +1,9 @@
 #include "links.h"
 
-#include <inttypes.h>
 #include <stdbool.h>
-#include <stdio.h>
 
 #include "parts.h"
+#include "teller.h"
 
 static const char *const names[LINKINGS] = {
     [AT_RELEASE] = "at its release: the chain is the record alone",
@@ -209,11 +208,5 @@ void meet_chain(Links *links, const uint8_t *file, size_t length, const uint8_t 
 /* ---- */
 
 uint64_t tell_links(const Links *links) {
-    uint64_t never = 0;
-    printf("what a record waited for, and its chain\n");
-    for (uint32_t i = 0; i < LINKINGS; i++) {
-        printf("  %-84s %" PRIu64 "%s\n", names[i], links->met[i], links->met[i] == 0 ? " (never met)" : "");
-        never += links->met[i] == 0;
-    }
-    return never;
+    return tell_lines("what a record waited for, and its chain", links->met, names, LINKINGS);
 }

@@ -27,3 +27,13 @@ void tell_names(Teller *teller, const char *what, const uint64_t *counts, uint32
         printf("%s", i + 1 < count ? "," : "\n");
     }
 }
+
+uint64_t tell_lines(const char *what, const uint64_t *counts, const char *const *names, uint32_t count) {
+    uint64_t never = 0;
+    printf("%s\n", what);
+    for (uint32_t i = 0; i < count; i++) {
+        printf("  %-84s %" PRIu64 "%s\n", names[i], counts[i], counts[i] == 0 ? " (never met)" : "");
+        never += counts[i] == 0;
+    }
+    return never;
+}
