@@ -29,8 +29,8 @@ module _ {b a a′ : List ℕ} {r : ℕ} (C : Checks b a r a′) (accepted : r �
     pub all-of-the-wait : ready (runIn b) k + waitOf (runIn b) k ≡ rec (runIn b) k .start
     all-of-the-wait = file-ready-and-wait b (call-accepts C accepted) k h
 
--- Of another accepted file of the same set, that is of the same setting and the same tasks: record k is the same job, and N times its wait there is
--- at most the sum of the greatest times of all other records here.
+-- Of two accepted files b and b′ of one set, that is of the same setting and the same tasks: record k is the same job in both, and N times its
+-- wait in b is at most the sum of the greatest times of all other records of b′.
 pub same-set-bounds : {b a a′ b′ c c′ : List ℕ} {r r′ : ℕ} → Checks b a r a′ → r ≤ 2 → Checks b′ c r′ c′ → r′ ≤ 2 → OneSet (runIn b) (runIn b′) → (k : ℕ) → IsRecord (runIn b) k
     → (jobOf (rec (runIn b) k) ≡ jobOf (rec (runIn b′) k)) × (waitTimesN (runIn b) k ≤ greatestTimes (runIn b′) (others (runIn b′) k))
 same-set-bounds C l D m = files-of-one-set _ _ (call-accepts C l) (call-accepts D m)

@@ -27,7 +27,7 @@ module _ (b : List ℕ) (accepted : check b .answer ≤ 2) where
     pub file-ready-and-wait : ready (runIn b) k + waitOf (runIn b) k ≡ rec (runIn b) k .start
     file-ready-and-wait = ready-and-wait (runIn b) (file-obeys rule3) (file-obeys rule9) k h
 
--- Two accepted files of one set
+-- Of two accepted files of one set each bounds the waits of the other by its greatest times.
 pub files-of-one-set : (b b′ : List ℕ) → check b .answer ≤ 2 → check b′ .answer ≤ 2 → OneSet (runIn b) (runIn b′) → (k : ℕ) → IsRecord (runIn b) k
     → (jobOf (rec (runIn b) k) ≡ jobOf (rec (runIn b′) k)) × (waitTimesN (runIn b) k ≤ greatestTimes (runIn b′) (others (runIn b′) k))
 files-of-one-set b b′ a a′ S = bounded-by-the-set (runIn b) (runIn b′) S (file-obeys b a) (file-obeys b′ a′)
