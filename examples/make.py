@@ -1,7 +1,7 @@
 #!/usr/bin/env python3
 """Writes the paper's worked runs, runs in which a job is released before the one before it of its task has ended, a desk's run with
-the names of its blocks, one in which a block waits as long as its bound, and the longest run file, as run files beside this script, and the records of each that is not refused as a
-text table.
+the names of its blocks, one in which a block waits as long as its bound, and the longest run file, as run files beside this script,
+and the records of each that is not refused as a text table.
 
   make.py [FOLDER]
 """

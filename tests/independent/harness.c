@@ -223,7 +223,7 @@ static const char *try_carry(Trial *trial) {
     return judge_calls(&trial->subject_call, &trial->oracle_call);
 }
 
-/* A file that is carried to its own H is another run of the same set, mostly: each is held to what the other's tasks allow. */
+/* A file that is carried to its own H is a run of the same set, and often another one: each is held to the other's greatest times. */
 static const char *judge_set(Trial *trial, Bytes carried) {
     Bytes file = file_of(trial);
     if (!of_one_set(file.bytes, file.length, carried.bytes, carried.length)) {

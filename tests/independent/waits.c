@@ -72,14 +72,12 @@ static uint32_t running_at(const Run *run, uint32_t instant) {
 /* At each instant at which a job is ready and has not started N records run; all instants of all records but this one are no fewer
    than N for each of these. */
 static const char *ticks_wrong(const Run *run, uint32_t k) {
-    const Record *record = &run->records[k];
     uint64_t waited = 0, taken = 0;
-    for (uint32_t t = record->release; t < record->start; t++) {
-        bool waits = t >= ready(run, record);
-        if (waits && running_at(run, t) != run->cores) {
+    for (uint32_t t = ready(run, &run->records[k]); t < run->records[k].start; t++) {
+        if (running_at(run, t) != run->cores) {
             return "while a job waits, not N records run";
         }
-        waited += waits ? run->cores : 0;
+        waited += run->cores;
     }
     for (uint32_t other = 0; other < run->record_count; other++) {
         for (uint32_t t = run->records[other].start; other != k && t < run->records[other].end; t++) {

@@ -48,7 +48,7 @@ module _ (ρ : Run) where
   pub says-out-of-order : (a b : ℕ) → Says (outOfOrder ρ a b) (StartsBefore ρ a b × ¬ InOrder ρ a b)
   says-out-of-order a b = says-and (says-ltb _ _) (says-not (says-in-order a b))
 
-  says-holds : (c t k : ℕ) → Says (holds ρ c t k) ((rec ρ k .core ≡ c) × (rec ρ k .start ≤ t) × (t < rec ρ k .end))
+  pub says-holds : (c t k : ℕ) → Says (holds ρ c t k) ((rec ρ k .core ≡ c) × (rec ρ k .start ≤ t) × (t < rec ρ k .end))
   says-holds c t k = says-map (λ g. (g .0, g .1 .0, g .1 .1)) (λ g. (g .0, (g .1, g .2))) (says-and (says-eqb _ _) (says-and (says-leb _ _) (says-ltb _ _)))
 
   pub says-busy : (c t : ℕ) → Says (busy ρ c t) (Busy ρ c t)

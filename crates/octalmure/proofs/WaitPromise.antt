@@ -3,12 +3,12 @@
 use Prim.Native.Nat.{ℕ, _+_, _≤_}
 use mathlib.Core.Path.{_≡_}
 use mathlib.Core.List.{List}
-use Rattle.model.specs.Model.{IsRecord, rec, jobOf, ready}
+use Rattle.model.specs.Model.{IsRecord, rec, jobOf, ready, lengthOf}
 use Rattle.model.specs.File.{whole, read}
 use Rattle.model.specs.Refusals.{runIn}
 use Rattle.model.proofs.Refusals.{accepted-reads}
 use Rattle.waittheory.specs.WaitBound.{waitOf, waitTimesN, others, WaitBounded, greatestTimes, WaitBoundedByTimes, OneSet}
-use Rattle.waittheory.proofs.AcceptedFile.{file-waits, file-waits-by-times, file-ready-and-wait, files-of-one-set}
+use Rattle.waittheory.proofs.AcceptedFile.{file-waits, file-waits-by-times, file-ready-and-wait, file-wait-and-length, files-of-one-set}
 use Rattle.octalmure.proofs.Promise.{Checks, call-accepts}
 
 module _ {b a a′ : List ℕ} {r : ℕ} (C : Checks b a r a′) (accepted : r ≤ 2) where
@@ -25,9 +25,12 @@ module _ {b a a′ : List ℕ} {r : ℕ} (C : Checks b a r a′) (accepted : r �
     pub check-bounds-by-times : WaitBoundedByTimes (runIn b) k
     check-bounds-by-times = file-waits-by-times b (call-accepts C accepted) k h
 
-    -- .. and the wait is all the time from ready to start.
+    -- .. and the wait is all the time from ready to start; with the job's own length, to its end.
     pub all-of-the-wait : ready (runIn b) k + waitOf (runIn b) k ≡ rec (runIn b) k .start
     all-of-the-wait = file-ready-and-wait b (call-accepts C accepted) k h
+
+    pub wait-then-length : ready (runIn b) k + waitOf (runIn b) k + lengthOf (runIn b) k ≡ rec (runIn b) k .end
+    wait-then-length = file-wait-and-length b (call-accepts C accepted) k h
 
 -- Of two accepted files b and b′ of one set, that is of the same setting and the same tasks: record k is the same job in both, and N times its
 -- wait in b is at most the sum of the greatest times of all other records of b′.

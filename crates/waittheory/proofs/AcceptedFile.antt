@@ -2,14 +2,14 @@
 use Prim.Native.Nat.{ℕ, _+_, _≤_}
 use mathlib.Core.Path.{_≡_, ap}
 use mathlib.Core.List.{List}
-use Rattle.model.specs.Model.{IsRecord, rec, jobOf, ready}
+use Rattle.model.specs.Model.{IsRecord, rec, jobOf, ready, lengthOf}
 use Rattle.model.specs.Rules.{Obeys, rule3, rule4, rule8, rule9}
 use Rattle.model.specs.Refusals.{runIn}
 use Rattle.model.specs.Compute.Verdict.{checkOf, check}
 use Rattle.model.proofs.Demand2.{accepted-exactly-if-obeyed}
 use Rattle.model.proofs.Refusals.{accepted-reads}
 use Rattle.waittheory.specs.WaitBound.{waitOf, waitTimesN, others, WaitBounded, greatestTimes, WaitBoundedByTimes, OneSet}
-use Rattle.waittheory.proofs.BoundedWait.{wait-bounded, wait-bounded-by-times, ready-and-wait}
+use Rattle.waittheory.proofs.BoundedWait.{wait-bounded, wait-bounded-by-times, ready-and-wait, wait-and-length}
 use Rattle.waittheory.proofs.OneSet.{bounded-by-the-set}
 
 module _ (b : List ℕ) (accepted : check b .answer ≤ 2) where
@@ -26,6 +26,9 @@ module _ (b : List ℕ) (accepted : check b .answer ≤ 2) where
 
     pub file-ready-and-wait : ready (runIn b) k + waitOf (runIn b) k ≡ rec (runIn b) k .start
     file-ready-and-wait = ready-and-wait (runIn b) (file-obeys rule3) (file-obeys rule9) k h
+
+    pub file-wait-and-length : ready (runIn b) k + waitOf (runIn b) k + lengthOf (runIn b) k ≡ rec (runIn b) k .end
+    file-wait-and-length = wait-and-length (runIn b) (file-obeys rule3) (file-obeys rule9) k h (file-obeys rule4)
 
 -- Of two accepted files of one set each bounds the waits of the other by its greatest times.
 pub files-of-one-set : (b b′ : List ℕ) → check b .answer ≤ 2 → check b′ .answer ≤ 2 → OneSet (runIn b) (runIn b′) → (k : ℕ) → IsRecord (runIn b) k

@@ -61,7 +61,11 @@ module _ (ρ : Run) (I : NoIdling ρ) (k : ℕ) (h : IsRecord ρ k) where
   wait-bounded-by-times L =
       omega (arith, wait-bounded, total-but-mono (lengthOf ρ) (greatestOf ρ) (length (ρ .records)) k h (λ j l. L j l .2))
 
--- The wait is all the time from ready to start: no job starts before it is ready.
-pub ready-and-wait : (ρ : Run) → Start ρ → Turn ρ → (k : ℕ) → IsRecord ρ k → ready ρ k + waitOf ρ k ≡ rec ρ k .start
-unfolding ready
-ready-and-wait ρ S T k h = omega (arith, S k h, T k h)
+-- The wait is all the time from ready to start, since no job starts before it is ready, and with its own length it is all the time to its end.
+module _ (ρ : Run) (S : Start ρ) (T : Turn ρ) (k : ℕ) (h : IsRecord ρ k) where
+  pub ready-and-wait : ready ρ k + waitOf ρ k ≡ rec ρ k .start
+  unfolding ready
+  ready-and-wait = omega (arith, S k h, T k h)
+
+  pub wait-and-length : Length ρ → ready ρ k + waitOf ρ k + lengthOf ρ k ≡ rec ρ k .end
+  wait-and-length L = omega (arith, ready-and-wait, L k h .0)

@@ -8,12 +8,12 @@ use native.Mathlib.Omega.{arith}
 use lib.Dec.{leb, ltb}
 use lib.ListN.{length}
 use Rattle.base.specs.Find.{count}
-use Rattle.base.proofs.Test.{Says, says-leb, says-ltb, says-eqb, says-and}
+use Rattle.base.proofs.Test.{Says, says-leb, says-ltb, says-and}
 use Rattle.base.proofs.Count.{all-number, number-counts, none-counted, all-counted, some-counted, one-counted}
 use Rattle.model.specs.Model.{Run, rec}
 use Rattle.model.specs.Rules.{IsCore, Core, NoOverlap, Busy}
 use Rattle.model.specs.Compute.Places.{holds, busy}
-use Rattle.model.proofs.RuleTests.{says-busy}
+use Rattle.model.proofs.RuleTests.{says-holds, says-busy}
 use Rattle.waittheory.specs.BusyCores.{RunsAt, Running, BusyCores}
 use Rattle.waittheory.proofs.Sums.{total-mono, unit, unit-under, unit-over, count-total, counts-swap}
 
@@ -26,13 +26,13 @@ module _ (ρ : Run) (t : ℕ) where
 
   -- The cores are 1, 2, .., that is suc i for an i below N.
   abbrev On : ℕ → ℕ → Type 0
-  On i k = (rec ρ k .core ≡ suc i) × RunsAt ρ t k
+  On i k = (rec ρ k .core ≡ suc i) × (rec ρ k .start ≤ t) × (t < rec ρ k .end)
 
   abbrev on : ℕ → ℕ → Bool
   on i k = holds ρ (suc i) t k
 
   says-on : (i k : ℕ) → Says (on i k) (On i k)
-  says-on i k = says-and (says-eqb _ _) (says-runs-at k)
+  says-on i k = says-holds ρ (suc i) t k
 
   abbrev isBusy : ℕ → Bool
   isBusy i = busy ρ (suc i) t
@@ -50,25 +50,25 @@ module _ (ρ : Run) (t : ℕ) where
   one-core : (k : ℕ) → count (λ i. on i k) N ≤ unit (runsAt k)
   one-core k =
       unit-over (says-runs-at k) _ (one-counted _ _ (λ i. says-on i k) N (λ a b l h p q. omega (arith, p .0, q .0)))
-      (λ f. none-counted _ _ (λ i. says-on i k) N (λ i l q. f (q .1)))
+      (λ f. none-counted _ _ (λ i. says-on i k) N (λ i l q. f (q .1, q .2)))
 
   -- .. and on one if that is among the N.
   own-core : (k : ℕ) → IsCore ρ (rec ρ k .core) → unit (runsAt k) ≤ count (λ i. on i k) N
   own-core k c =
-      unit-under (says-runs-at k) _ (λ r. some-counted _ _ (λ i. says-on i k) N (rec ρ k .core - 1) (omega (arith, c)) (omega (arith, c), r))
+      unit-under (says-runs-at k) _ (λ r. some-counted _ _ (λ i. says-on i k) N (rec ρ k .core - 1) (omega (arith, c)) (omega (arith, c), r .0, r .1))
 
   -- A busy core has a record, ..
   some-record : (i : ℕ) → unit (isBusy i) ≤ count (on i) n
-  some-record i = unit-under (says-is-busy i) _ (λ (k, h, c, s, e). some-counted _ _ (says-on i) n k h (c, (s, e)))
+  some-record i = unit-under (says-is-busy i) _ (λ (k, h, c, s, e). some-counted _ _ (says-on i) n k h (c, s, e))
 
   -- .. and one alone where no two overlap.
   one-record : NoOverlap ρ → (i : ℕ) → count (on i) n ≤ unit (isBusy i)
   one-record O i =
       unit-over (says-is-busy i) _ (one-counted _ _ (says-on i) n apart)
-      (λ f. none-counted _ _ (says-on i) n (λ k h q. f (k, h, q .0, q .1 .0, q .1 .1)))
+      (λ f. none-counted _ _ (says-on i) n (λ k h q. f (k, h, q .0, q .1, q .2)))
     where
       apart : (a b : ℕ) → a < b → b < n → On i a → ¬ On i b
-      apart a b l h (c, p) (d, q) = ⊎-elim (λ u. omega (arith, p .1, q .0)) (λ u. omega (arith, q .1, p .0)) (O a b l h (c ∙ sym d))
+      apart a b l h p q = ⊎-elim (λ u. omega (arith, p .2, q .1)) (λ u. omega (arith, q .2, p .1)) (O a b l h (p .0 ∙ sym (q .0)))
 
   -- No fewer records run than cores are busy, ..
   busy-run : count isBusy N ≤ count runsAt n
@@ -102,11 +102,11 @@ module _ (ρ : Run) (t : ℕ) where
 
   -- Where every core is busy, just N run, and without these two rules no fewer.
   module _ (B : (c : ℕ) → IsCore ρ c → Busy ρ c t) where
-    all-busy : (i : ℕ) → i < N → Busy ρ (suc i) t
-    all-busy i l = B (suc i) (omega arith, omega arith)
+    each-busy : (i : ℕ) → i < N → Busy ρ (suc i) t
+    each-busy i l = B (suc i) (omega arith, omega arith)
 
     pub just-n-run : Core ρ → NoOverlap ρ → Running ρ t N
-    just-n-run C O = as-many-run C O N .1 (all-number _ N all-busy)
+    just-n-run C O = as-many-run C O N .1 (all-number _ N each-busy)
 
     pub n-run : N ≤ count runsAt n
-    n-run = omega (arith, busy-run, all-counted _ _ says-is-busy N all-busy)
+    n-run = omega (arith, busy-run, all-counted _ _ says-is-busy N each-busy)

@@ -1,4 +1,4 @@
--- Sums of numbers along a list, two sums that change places, and counts as sums. No word of the product. Assumes nothing.
+-- Sums of numbers along a list, two sums that change places, and counts as sums: of numbers alone. Assumes nothing.
 use Prim.Native.Nat.{ℕ, zero, suc, _+_, _*_, _-_, _≤_, _<_}
 use mathlib.Core.Path.{_≡_, refl, sym, _∙_}
 use mathlib.Core.Bool.{Bool, true, false}
@@ -15,15 +15,15 @@ total f l = sum (map f l)
 
 -- Along any list
 -- --------------
-pub total-append : (f : ℕ → ℕ) (l m : List ℕ) → total f (l ++ m) ≡ total f l + total f m
+total-append : (f : ℕ → ℕ) (l m : List ℕ) → total f (l ++ m) ≡ total f l + total f m
 total-append f [] m = omega arith
 total-append f (k ∷ l) m = let e = total-append f l m in omega arith
 
-pub total-add : (f g : ℕ → ℕ) (l : List ℕ) → total (λ k. f k + g k) l ≡ total f l + total g l
+total-add : (f g : ℕ → ℕ) (l : List ℕ) → total (λ k. f k + g k) l ≡ total f l + total g l
 total-add f g [] = refl
 total-add f g (k ∷ l) = let e = total-add f g l in omega arith
 
-pub total-zero : (l : List ℕ) → total (λ k. 0) l ≡ 0
+total-zero : (l : List ℕ) → total (λ k. 0) l ≡ 0
 total-zero [] = refl
 total-zero (k ∷ l) = let e = total-zero l in omega arith
 
@@ -44,7 +44,7 @@ total-const c i (suc n) = let e = total-const c (suc i) n in omega arith
 same-up : (f : ℕ → ℕ) (i j m n : ℕ) → i ≡ j → m ≡ n → total f (upTo i m) ≡ total f (upTo j n)
 same-up f i j m n p q = λ κ. total f (upTo (p κ) (q κ))
 
-pub total-join : (f : ℕ → ℕ) (i m n : ℕ) → total f (upTo i (m + n)) ≡ total f (upTo i m) + total f (upTo (i + m) n)
+total-join : (f : ℕ → ℕ) (i m n : ℕ) → total f (upTo i (m + n)) ≡ total f (upTo i m) + total f (upTo (i + m) n)
 total-join f i zero n = omega (arith, same-up f i i (0 + n) n refl (omega arith), same-up f (i + 0) i n n (omega arith) refl)
 total-join f i (suc m) n =
     omega (
