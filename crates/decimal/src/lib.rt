@@ -3,7 +3,7 @@ ghost use Rattle.std.specs.Prelude.{◌≡◌, ◌<◌, length};
 ghost use Rattle.model.specs.Report.{decimal};
 ghost use Rattle.decimal.specs.NumberFirst.{SaysNumber};
 
-#[derive(Drop)]
+#[derive(Clone, Copy)]
 pub enum Parsed {
     // the number, and the place after the byte that ends it
     Number(u32, usize),

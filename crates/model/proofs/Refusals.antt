@@ -142,7 +142,7 @@ module _ (b : List ℕ) where
   unfolding gate_task
   asked_tasks qs o r (Finds.passes i e F) c =
       Comes.refuses 5 i (inl (λ h. F.here.1 (h i F.here.0), refl)) (λ z. F, λ n. absurd (n refl)) (ap (λ o. gate_task o r) e)
-  asked_tasks qs o r (Finds.None-passes e f) c = go c
+  asked_tasks qs o r (Finds.none_passes e f) c = go c
     where
       fine : (i : ℕ) → i < length (tasks_told b) → TaskInRange (task (tasks_told b) i)
       fine i h = stable (says_task (task (tasks_told b) i)) (λ w. f i (h, w))

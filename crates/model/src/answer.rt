@@ -1,5 +1,5 @@
 // What is said of a file. The paper's numbers for each case are `five_of` of specs/Answers.antt.
-#[derive(Drop)]
+#[derive(Clone, Copy)]
 pub enum Answer {
     InTime,
     // the number of late records, and the least that begins before H

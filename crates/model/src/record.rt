@@ -1,5 +1,5 @@
 // One job's task, job, release r, start s, end e and core.
-#[derive(Drop)]
+#[derive(Clone, Copy)]
 pub struct Record {
     pub task: u32,
     pub job: u32,

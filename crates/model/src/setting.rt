@@ -2,7 +2,7 @@
 ghost use Rattle.std.specs.Prelude.{◌≡◌};
 ghost use Rattle.model.specs.Compute.Limits.{setting_in_range};
 
-#[derive(Drop)]
+#[derive(Clone, Copy)]
 pub struct Setting {
     pub cores: u32,
     pub horizon: u32,

@@ -3,7 +3,7 @@ ghost use Rattle.std.specs.Prelude.{◌≡◌};
 ghost use Rattle.model.specs.Model.{arrival, deadline, job_count};
 ghost use Rattle.model.specs.Compute.Limits.{task_in_range};
 
-#[derive(Drop)]
+#[derive(Clone, Copy)]
 pub struct Task {
     pub period: u32,
     pub least: u32,

@@ -1,7 +1,7 @@
 // What a file tells besides its records, and where its sections stand.
 use model::Setting;
 
-#[derive(Drop)]
+#[derive(Clone, Copy)]
 pub struct Head {
     pub setting: Setting,
     // how many tasks there are, and where the first begins
@@ -13,7 +13,7 @@ pub struct Head {
 }
 
 // A file that is refused, by the refusal's number and the task that it names; or one that is whole.
-#[derive(Drop)]
+#[derive(Clone, Copy)]
 pub enum Opened {
     Refused(u32, u32),
     Whole(Head),

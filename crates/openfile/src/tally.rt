@@ -5,7 +5,7 @@ ghost use Rattle.openfile.specs.Head.{Tallies};
 
 use runfile::task_at;
 
-#[derive(Drop)]
+#[derive(Clone, Copy)]
 pub enum Tally {
     OutOfRange(u32),
     Jobs(u64),

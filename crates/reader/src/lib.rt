@@ -10,14 +10,14 @@ use runfile::RECORD_SIZE;
 pub use search::{is_of, least_record};
 
 // Where the tasks and the records of a file begin, and how many records there are: none in a file that is refused.
-#[derive(Drop)]
+#[derive(Clone, Copy)]
 pub struct Starts {
     pub tasks: u32,
     pub records: u32,
     pub count: u32,
 }
 
-#[derive(Drop)]
+#[derive(Clone, Copy)]
 pub struct Reader<'a> {
     pub file: &'a [u8],
     pub tasks: u32,

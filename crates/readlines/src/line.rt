@@ -4,7 +4,7 @@ ghost use Rattle.readlines.specs.Scan.{SaysLine};
 use decimal::{Parsed, number_at};
 use model::Record;
 
-#[derive(Drop)]
+#[derive(Clone, Copy)]
 pub(crate) enum Line {
     // the record, and the place after the line feed
     Good(Record, usize),

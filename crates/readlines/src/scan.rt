@@ -11,7 +11,7 @@ use crate::line::{Line, line_at};
 use exchange::{HEADER_SIZE, header_line};
 use model::Record;
 
-#[derive(Drop)]
+#[derive(Clone, Copy)]
 pub enum Scanned {
     // the refusal's number, and the line for 12 and 13
     Refused(u32, u32),

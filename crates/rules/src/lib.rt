@@ -7,7 +7,7 @@ ghost use Rattle.rules.specs.Asked.{obeyed_by, obeyed_in};
 use base::Found;
 
 // What a rule asks of a record by four numbers; where it asks fewer, the others are not looked at.
-#[derive(Drop)]
+#[derive(Clone, Copy)]
 pub enum Asks {
     // earliest, release, latest
     Released,

@@ -11,7 +11,7 @@ use reader::{Starts, least_record, part_in, starts_of};
 use runfile::{record_at, setting_of};
 
 // Where a job's record was found: in which file, and which record.
-#[derive(Drop)]
+#[derive(Clone, Copy)]
 pub enum Place {
     Recorded(u32),
     Carried(u32),

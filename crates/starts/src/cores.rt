@@ -10,7 +10,7 @@ use model::Setting;
 const CORES: usize = Setting::MOST_CORES as usize + 1;
 
 // The last end on each of the cores from 1 on, the core that was taken, and the least of the last ends then.
-#[derive(Drop)]
+#[derive(Clone, Copy)]
 pub struct Taken {
     pub ends: [u32; CORES],
     pub core: u32,

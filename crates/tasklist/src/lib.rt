@@ -20,7 +20,7 @@ const NO_TASK: Task = Task {
 };
 
 // What a decoding answers: the refusal's number and task, or number 0; and how many tasks it stored.
-#[derive(Drop)]
+#[derive(Clone, Copy)]
 pub struct Stored {
     pub number: u32,
     pub task: u32,

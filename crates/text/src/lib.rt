@@ -10,7 +10,7 @@ use model::Answer;
 use wire::{Numbers, numbers_of};
 
 // A line as a value: its bytes, zeros after them, and how many bytes it has.
-#[derive(Drop)]
+#[derive(Clone, Copy)]
 pub struct Line {
     pub text: [u8; 64],
     pub size: usize,

@@ -10,7 +10,7 @@ use model::{TASKS, Task};
 use table::{DUE, EARLIEST, END, JOB, LEAST, RELEASE, put_row};
 
 // What is filled in at once: until when a record may be released, how long it may last, what its order goes by.
-#[derive(Drop)]
+#[derive(Clone, Copy)]
 pub enum Stage {
     Release,
     Length,

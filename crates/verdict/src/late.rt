@@ -9,7 +9,7 @@ use base::Found;
 use model::Answer;
 
 // How many are late, the first of them, and the first of them that begins before the horizon.
-#[derive(Drop)]
+#[derive(Clone, Copy)]
 pub struct Late {
     pub count: u32,
     pub first: Found,

@@ -19,7 +19,7 @@ pub fn put_u32(s: &mut [u8], at: usize, v: u32)
 }
 
 // The five numbers of an answer.
-#[derive(Drop)]
+#[derive(Clone, Copy)]
 pub struct Numbers {
     pub answer: u32,
     pub code: u32,
