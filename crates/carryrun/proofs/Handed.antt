@@ -42,7 +42,7 @@ module _ {b : List ℕ} {h : Head} {l : List Task} {H' m room : ℕ} {ρ : Run} 
       let same : (carried ρ H').tasks ≡ ρ.tasks = carried_tasks ρ H' L W.obeys R.longer R.most R.few in
       record {
         setting = rw (tells_setting K.tells) (carried_setting ρ H' L W.obeys R.longer R.most R.few);
-        task_count_lem = tells_task_count K.tells ∙ ap length (sym same);
+        task_total = tells_task_count K.tells ∙ ap length (sym same);
         tasks = leads_same same K.tasks;
         table = lent_fewer T 6 (omega arith);
       }

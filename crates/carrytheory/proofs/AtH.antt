@@ -32,7 +32,7 @@ module _ (ρ : Run) where
   job_at_H q = go (place_finds ρ q)
     where
       go : Finds ◌<◌ (RecordOf ρ q) (place_of ρ q) → job_of (at_H ρ q) ≡ q
-      go (Finds.None-passes e f) = rw e
+      go (Finds.none_passes e f) = rw e
       go (Finds.passes p e F) = rw e (kept_job (ltb (rec ρ p).start ρ.setting.horizon) q (rec ρ p) F.here.1)
 
   jobs_at_H : (qs : List Job) → map job_of (map (at_H ρ) qs) ≡ qs
@@ -90,7 +90,7 @@ module _ (ρ : Run) (H' : ℕ) (O : Obeys ρ) (good : Good ρ.tasks) (longer : �
   origin_of k q r z = go (place_finds ρ q)
     where
       go : Finds ◌<◌ (RecordOf ρ q) (place_of ρ q) → Origin k
-      go (Finds.None-passes e f) = new q (late (dec_le H (arrives q))) (z ∙ rw e)
+      go (Finds.none_passes e f) = new q (late (dec_le H (arrives q))) (z ∙ rw e)
         where
           late : Dec (H ≤ arrives q) → H ≤ arrives q
           late (yes w) = w

@@ -77,7 +77,7 @@ module _ (b : List ℕ) (H' room : ℕ) where
       let C = carriable b H' room h in
       let L = carried_within (run_in b) H' C.limits C.obeys C.longer C.most C.few in
       let n = length-bytes (carried (run_in b) H') in
-      record { answer = omega arith; code = omega (arith, n, L.task_count_lem, L.record_total); x = omega arith; y = omega arith; z = omega arith }
+      record { answer = omega arith; code = omega (arith, n, L.task_total, L.record_total); x = omega arith; y = omega arith; z = omega arith }
 
   pub carry_fits : Bytes b → FiveFit (carry b H' room).told
   unfolding written_out

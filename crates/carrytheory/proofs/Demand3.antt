@@ -97,9 +97,9 @@ module _ (ρ : Run) (H' : ℕ) (L : WithinLimits ρ) (O : Obeys ρ) (longer : ρ
   carried_within =
       record {
         setting = rw carried_setting (record { cores = L.setting.cores; horizon = (omega (arith, L.setting), most) });
-        task_count_lem = rw carried_tasks L.task_count_lem;
+        task_total = rw carried_tasks L.task_total;
         tasks = rw carried_tasks L.tasks;
-        job_count_lem = rw (carried_tasks, carried_setting) few;
+        job_total = rw (carried_tasks, carried_setting) few;
         record_total = omega (arith, carried_count, existing_few ρ H');
       }
 
@@ -117,7 +117,7 @@ module _ (ρ : Run) (H' : ℕ) (L : WithinLimits ρ) (O : Obeys ρ) (longer : ρ
       let e = carried_ends k h in
       let s = O' rule3 k h in
       let l = (O' rule4 k h).0 in
-      fits_cons (omega (arith, L'.task_count_lem))
+      fits_cons (omega (arith, L'.task_total))
       (fits_cons (omega (arith, L'.setting))
       (fits_cons (omega arith)
       (fits_cons (omega arith)

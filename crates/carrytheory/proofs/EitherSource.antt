@@ -68,7 +68,7 @@ module _ (b c : List ℕ) (ρ : Run) (reads : read b ≡ whole ρ) (q : Job) whe
   shows = go (place_finds ρ q)
     where
       go : Finds ◌<◌ (RecordOf ρ q) (place_of ρ q) → Shows
-      go (Finds.None-passes e f) = elsewhere (rw (reads, e))
+      go (Finds.none_passes e f) = elsewhere (rw (reads, e))
       go (Finds.passes k e F) = before (ltb (rec ρ k).start ρ.setting.horizon) refl
         where
           before : (t : Bool) → ltb (rec ρ k).start ρ.setting.horizon ≡ t → Shows

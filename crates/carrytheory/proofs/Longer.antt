@@ -120,7 +120,7 @@ module _ (H' : ℕ) (σ τ : Run) (X : Longer H' σ τ) (t : ℕ) (below : t < H
   next_together = go (next_finds σ t)
     where
       go : Finds ◌<◌ (IsNext σ t) (next σ t) → NextTogether H' σ τ t
-      go (Finds.None-passes e f) = no_next e ((finds_none _ _ (next_finds τ t)).1 nobody)
+      go (Finds.none_passes e f) = no_next e ((finds_none _ _ (next_finds τ t)).1 nobody)
         where
           nobody : (j : ℕ) → ¬ IsNext τ t j
           nobody j N =

@@ -131,7 +131,7 @@ module _ (σ : Run) where
       same j J K (inr (inr b)) = absurd (J.first k K.range K.can b)
 
       back : Finds ◌<◌ (IsNext t) (next σ t) → IsNext t k → next σ t ≡ some k
-      back (Finds.None-passes e f) K = absurd (f k K)
+      back (Finds.none_passes e f) K = absurd (f k K)
       back (Finds.passes j e F) K = e ∙ ap some (same j F.here K (total_lex (total_lex total_number) (key j) (key k)))
 
   -- What may start at t

@@ -37,7 +37,7 @@ module _ (χ σ τ : Run) (J : Jobs χ) (good : Good χ.tasks) (all_begun : (k :
   not_placed q l = go (place_finds χ q)
     where
       go : Finds ◌<◌ (RecordOf χ q) (place_of χ q) → place_of χ q ≡ none
-      go (Finds.None-passes e f) = e
+      go (Finds.none_passes e f) = e
       go (Finds.passes p e P) =
           let (h, s) = P.here in
           let x = subst (λ r. arrival (task χ.tasks r.0) r.1 < H) s (record_exists χ J good p h).1 in

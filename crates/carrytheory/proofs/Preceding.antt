@@ -15,7 +15,7 @@ use Rattle.model.specs.Compute.Places.{size}
 use Rattle.model.proofs.RuleTests.{says_same_job}
 use Rattle.model.proofs.Jobs.{Lower}
 use Rattle.carrytheory.proofs.Depends.{existing_before}
-use Rattle.carrytheory.proofs.Recorded.{record_total, record_job, records_rise, one_record}
+use Rattle.carrytheory.proofs.Recorded.{record_count_lem, record_job, records_rise, one_record}
 
 -- The least record of a job
 -- -------------------------
@@ -33,7 +33,7 @@ pub least_is : (ρ : Run) → Jobs ρ → (k : ℕ) (q : Job) → RecordOf ρ q 
 least_is ρ J k q (h, e) = go (place_finds ρ q)
   where
     go : Finds ◌<◌ (RecordOf ρ q) (place_of ρ q) → place_of ρ q ≡ some k
-    go (Finds.None-passes z f) = absurd (f k (h, e))
+    go (Finds.none_passes z f) = absurd (f k (h, e))
     go (Finds.passes p z F) = z ∙ ap some (one_record ρ J p k F.here.0 h (F.here.1 ∙ sym e))
 
 -- The job before, of any records
@@ -89,10 +89,10 @@ module _ (σ : Run) (J : Jobs σ) where
       go (suc j) z =
           let (p, m, e) =
           existing_before σ σ.setting.horizon (rec σ k).task j
-          (k, rw (record_total σ J) at h, sym (record_job σ J k h) ∙ (λ κ. ((rec σ k).task, z κ))) in
-          let w : job_of (rec σ p) ≡ ((rec σ k).task, j) = record_job σ J p (rw (record_total σ J) m) ∙ e in
+          (k, rw (record_count_lem σ J) at h, sym (record_job σ J k h) ∙ (λ κ. ((rec σ k).task, z κ))) in
+          let w : job_of (rec σ p) ≡ ((rec σ k).task, j) = record_job σ J p (rw (record_count_lem σ J) m) ∙ e in
           let y : (rec σ p).job ≡ j = ap (λ x. x.1) w in
-          (p, record { range = rw (record_total σ J) m; same_task = ap (λ x. x.0) w; one_less = ap suc y ∙ sym z })
+          (p, record { range = rw (record_count_lem σ J) m; same_task = ap (λ x. x.0) w; one_less = ap suc y ∙ sym z })
 
   -- no record stands between the two
   just_before : (p k : ℕ) → IsRecord σ k → JustBefore σ p k → suc p ≡ k

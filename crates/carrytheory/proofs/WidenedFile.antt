@@ -26,9 +26,9 @@ module _ (b : List ℕ) (B : Bytes b) (ρ : Run) (reads : read b ≡ whole ρ) w
         let L = read_limits b ρ reads in
         record {
           setting = L.setting;
-          task_count_lem = rw (as_many v) L.task_count_lem;
+          task_total = rw (as_many v) L.task_total;
           tasks = within;
-          job_count_lem = rw (same_counts v ρ.setting.horizon) L.job_count_lem;
+          job_total = rw (same_counts v ρ.setting.horizon) L.job_total;
           record_total = L.record_total;
         }
 

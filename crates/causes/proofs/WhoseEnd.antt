@@ -133,7 +133,7 @@ module _ (ρ : Run) (W : WithinLimits ρ) (O : Obeys ρ) where
       (λ κ. cause_if ρ (a κ) (b κ) (preceding ρ k) (core_ended ρ k)) ∙ found (core_finds ρ k)
     where
       found : Finds ◌<◌ (CoreEnded ρ k) (core_ended ρ k) → core_ended ρ k ≡ some j
-      found (Finds.None-passes e n) = absurd (n j w)
+      found (Finds.none_passes e n) = absurd (n j w)
       found (Finds.passes i e F) = e ∙ ap some (core_once k i j F.here w)
 
   pub cause_once : {k i j : ℕ} → Cause ρ k i → Cause ρ k j → i ≡ j

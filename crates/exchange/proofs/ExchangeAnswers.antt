@@ -85,7 +85,7 @@ module _ (b T : List ℕ) (room : ℕ) where
       go (ImportSays.taken {ρ = ρ} {xs = xs} e W t h) =
           let L = imported_within ρ xs W (read_limits b ρ e) in
           few_fit 5 (length (bytes (imported ρ xs))) 0 (omega arith)
-          (omega (arith, length-bytes (imported ρ xs), L.task_count_lem.1, L.record_total)) (omega arith)
+          (omega (arith, length-bytes (imported ρ xs), L.task_total.1, L.record_total)) (omega arith)
 
 -- Export
 -- ------

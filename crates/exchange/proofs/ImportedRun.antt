@@ -104,9 +104,9 @@ module _ (ρ : Run) (xs : List Record) where
     imported_within L =
         record {
           setting = L.setting;
-          task_count_lem = L.task_count_lem;
+          task_total = L.task_total;
           tasks = L.tasks;
-          job_count_lem = L.job_count_lem;
+          job_total = L.job_total;
           record_total = omega (arith, W.few, same_length (sorted_same job_before xs));
         }
 

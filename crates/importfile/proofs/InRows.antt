@@ -164,7 +164,7 @@ module _ {b : List ℕ} {h : Head} {rows : List ℕ} {n room : ℕ} {ρ : Run} {
     tabled {l} {t'} L T =
         record {
           setting = sym (tells_setting I.tells);
-          task_count_lem = tells_task_count I.tells;
+          task_total = tells_task_count I.tells;
           tasks = leads_same refl L;
           table = subst (λ m. Lent recorded (imported ρ xs) t' m) long T;
         }

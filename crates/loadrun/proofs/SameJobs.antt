@@ -89,7 +89,7 @@ module _ {ρ : Run} {is js : List ℕ} {i at count : ℕ} (N : NextTask ρ is js
   reached = N.to_here.reached
 
   pub next_fits : WithinLimits ρ → at + count ≤ most_jobs
-  next_fits W = omega (arith, reached, N.counted, task_within ρ i N.is_task, W.job_count_lem)
+  next_fits W = omega (arith, reached, N.counted, task_within ρ i N.is_task, W.job_total)
 
   -- at the places of the task the test is that of rule 1
   other_is : (k : ℕ) → at ≤ k → k < at + count → other_job is js i at k ≡ differ ρ k

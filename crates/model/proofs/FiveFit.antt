@@ -86,7 +86,7 @@ module _ (b : List ℕ) (B : Bytes b) where
 
     job_number : (k : ℕ) → k < max (length (jobs_recorded ρ)) (length (existing ρ ρ.setting.horizon)) → FourBytes k
     job_number k h =
-        omega (arith, h, length-map ρ.records job_of, existing_few ρ ρ.setting.horizon, L.record_total, L.job_count_lem)
+        omega (arith, h, length-map ρ.records job_of, existing_few ρ ρ.setting.horizon, L.record_total, L.job_total)
 
     -- the place of a rule that is broken
     place_fits : (ν : Rule) (p : Place) → BrokenAt ν ρ p → FourBytes p.x × FourBytes p.y × FourBytes p.z

@@ -41,9 +41,9 @@ within =
     let M = length-replicate most_records no_record in
     record {
       setting = record { cores = (omega arith, omega arith); horizon = (omega arith, omega arith) };
-      task_count_lem = (omega arith, omega arith);
+      task_total = (omega arith, omega arith);
       tasks = λ i h. rw (get_or-replicate most_tasks i one_tick no_task (omega arith)) in_range;
-      job_count_lem = no_job;
+      job_total = no_job;
       record_total = omega arith;
     }
 

@@ -122,9 +122,9 @@ module _ (b : List ℕ) where
           limits =
               record {
                 setting = in_range;
-                task_count_lem = (omega arith, omega arith);
+                task_total = (omega arith, omega arith);
                 tasks = (tasks_fine τs).0 none-bad;
-                job_count_lem = few_jobs;
+                job_total = few_jobs;
                 record_total = omega arith;
               };
           size = omega arith;
@@ -151,4 +151,4 @@ module _ (b : List ℕ) where
     longest e =
         let L = read_limits e in
         let l = read_length e in
-        omega (arith, L.task_count_lem.1, L.record_total)
+        omega (arith, L.task_total.1, L.record_total)

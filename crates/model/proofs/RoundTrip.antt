@@ -179,7 +179,7 @@ module _ (ρ : Run) where
         fits_cons (omega arith)
         (fits_cons (omega (arith, L.setting))
         (fits_cons (omega (arith, L.setting))
-        (fits_cons (omega (arith, L.task_count_lem))
+        (fits_cons (omega (arith, L.task_total))
         (fits_append (joined task_numbers ρ.tasks) tasks (fits_cons (omega (arith, L.record_total)) records)))))
 
     setting_back : setting_at b 4 ≡ ρ.setting
@@ -218,10 +218,10 @@ module _ (ρ : Run) where
     tasks_read : read_tasks b ρ.setting ≡ whole ρ
     unfolding read_tasks
     tasks_read =
-        let few = says_true (says_leb (total_jobs ρ.tasks ρ.setting.horizon) most_jobs) L.job_count_lem in
+        let few = says_true (says_leb (total_jobs ρ.tasks ρ.setting.horizon) most_jobs) L.job_total in
         rw (task_count_back, tasks_back)
         (opens 1 _ _ (has_to (tasks_place + 4) (omega arith))
-        (opens 4 _ _ (says_true (says_within 1 most_tasks n) L.task_count_lem)
+        (opens 4 _ _ (says_true (says_within 1 most_tasks n) L.task_total)
         (opens 1 _ _ (has_to (records_place n) (omega arith))
         ((gate_task_whole _ _ ρ).1 ((tasks_fine ρ.tasks).1 L.tasks, opens 6 _ _ few records_read)))))
 

@@ -176,7 +176,7 @@ module _ (ρ : Run) where
 -- A run within all limits.
 pub record WithinLimits (ρ : Run) : Type 0 where
   pub setting : SettingInRange ρ.setting
-  pub task_count_lem : (1 ≤ length ρ.tasks) × (length ρ.tasks ≤ most_tasks)
+  pub task_total : (1 ≤ length ρ.tasks) × (length ρ.tasks ≤ most_tasks)
   pub tasks : (i : ℕ) → i < length ρ.tasks → TaskInRange (task ρ.tasks i)
-  pub job_count_lem : total_jobs ρ.tasks ρ.setting.horizon ≤ most_jobs
+  pub job_total : total_jobs ρ.tasks ρ.setting.horizon ≤ most_jobs
   pub record_total : length ρ.records ≤ most_records

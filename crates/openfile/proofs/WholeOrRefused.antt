@@ -67,7 +67,7 @@ module _ {b : List ℕ} {h : Head} {ρ : Run} (T : Tells b h ρ) where
   tells_few =
       let n = tells_task_count in
       let m = tells_count in
-      let (some-task, few_tasks) = tells_limits.task_count_lem in
+      let (some-task, few_tasks) = tells_limits.task_total in
       (omega arith, omega arith, omega (arith, tells_limits.record_total))
 
   pub tells_size : size_of h.tasks h.records ≡ length b

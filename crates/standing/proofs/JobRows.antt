@@ -44,7 +44,7 @@ tasked_on {i} {count} {t₀} {m} {at} {t} {t'} {j} T h l P =
 -- ---------
 module _ {l : List Task} {n H m : ℕ} {σ : Run} (J : OfTasks l n H m σ) where
   of_first : σ.tasks ≡ take n l
-  of_first = leads_take J.tasks J.task_count_lem
+  of_first = leads_take J.tasks J.task_total
 
   of_total : total_jobs (take n l) H ≡ m
   of_total = sym (J.count ∙ record_total σ J.jobs ∙ (λ κ. total_jobs (of_first κ) (J.horizon κ)))
@@ -64,8 +64,8 @@ pub listing_none : {l : List Task} {n H : ℕ} {t : List ℕ} {m : ℕ} {σ : Ru
 listing_none S J =
     record {
       within = omega arith;
-      room = omega (arith, J.task_count_lem, J.tasks.room);
-      most = omega (arith, J.task_count_lem, J.limits.task_count_lem);
+      room = omega (arith, J.task_total, J.tasks.room);
+      most = omega (arith, J.task_total, J.limits.task_total);
       long = refl;
       sized = S;
       total = of_total J;

@@ -29,9 +29,9 @@ module _ {b : List ℕ} {h : Head} {l : List Task} {H' m : ℕ} {ρ : Run} (C : 
       let W = tells_limits C.tells in
       record {
         setting = record { cores = W.setting.cores; horizon = (omega (arith, W.setting.horizon, C.allowed.longer), C.allowed.most) };
-        task_count_lem = W.task_count_lem;
+        task_total = W.task_total;
         tasks = W.tasks;
-        job_count_lem = C.allowed.few;
+        job_total = C.allowed.few;
         record_total = omega (arith, stands_count, C.count, existing_few ρ H', C.allowed.few);
       }
 
@@ -45,7 +45,7 @@ module _ {b : List ℕ} {h : Head} {l : List Task} {H' m : ℕ} {ρ : Run} (C : 
         limits = stands_limits;
         jobs = opening_jobs ρ H';
         tasks = stands_tasks;
-        task_count_lem = tells_task_count C.tells;
+        task_total = tells_task_count C.tells;
         horizon = refl;
         count = stands_count;
       }

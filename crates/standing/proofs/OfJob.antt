@@ -29,7 +29,7 @@ pub found_record : (ρ : Run) (q : Job) (k : ℕ) → some k ≡ place_of ρ q �
 found_record ρ q k e = go (place_finds ρ q)
   where
     go : Finds ◌<◌ (RecordOf ρ q) (place_of ρ q) → IsRecord ρ k
-    go (Finds.None-passes w f) = absurd (some≢none (e ∙ w))
+    go (Finds.none_passes w f) = absurd (some≢none (e ∙ w))
     go (Finds.passes p w F) = let z : p ≡ k = cc in rw z at F.here.0
 
 module _ {b : List ℕ} {h : Head} {ρ : Run} (T : Tells b h ρ) where
@@ -44,7 +44,7 @@ module _ {b : List ℕ} {h : Head} {ρ : Run} (T : Tells b h ρ) where
   not_yet J i j {τ} e l = go (place_finds ρ (i, j))
     where
       go : Finds ◌<◌ (RecordOf ρ (i, j)) (place_of ρ (i, j)) → none ≡ place_of ρ (i, j)
-      go (Finds.None-passes w f) = sym w
+      go (Finds.none_passes w f) = sym w
       go (Finds.passes p w F) =
           let good : Good ρ.tasks = λ m l. ((tells_limits T).tasks m l).period.0 in
           let (r, x) = record_exists ρ J good p F.here.0 in

@@ -81,7 +81,7 @@ module _ {b : List ℕ} {h : Head} {l : List Task} {t₀ : List ℕ} {m : ℕ} {
   pub task_there : i < most_tasks
   task_there =
       let C = O.carriable in
-      omega (arith, (job_is O.run O.to C O.listed).0, (tells_limits C.tells).task_count_lem)
+      omega (arith, (job_is O.run O.to C O.listed).0, (tells_limits C.tells).task_total)
 
   -- what is computed of it fits
   pub arrival_fits : FourBytes (arrival (task l i) j)

@@ -14,6 +14,6 @@ pub record OfTasks (l : List Task) (n H m : ℕ) (σ : Run) : Type 0 where
   pub limits : WithinLimits σ
   pub jobs : Jobs σ
   pub tasks : Leads σ l
-  pub task_count_lem : n ≡ length σ.tasks
+  pub task_total : n ≡ length σ.tasks
   pub horizon : σ.setting.horizon ≡ H
   pub count : m ≡ length σ.records

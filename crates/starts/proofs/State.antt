@@ -60,9 +60,9 @@ module _ (σ : Run) (u k c : ℕ) (range : IsRecord σ k) where
   limits_stay X =
       record {
         setting = X.setting;
-        task_count_lem = X.task_count_lem;
+        task_total = X.task_total;
         tasks = X.tasks;
-        job_count_lem = X.job_count_lem;
+        job_total = X.job_total;
         record_total = rw (as_many σ u k c W) X.record_total;
       }
 

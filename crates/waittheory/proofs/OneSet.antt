@@ -6,7 +6,7 @@ use native.Mathlib.Omega.{arith}
 use lib.ListN.{length, get_or}
 use Rattle.model.specs.Model.{Run, IsRecord, rec, task, job_of, jobs, existing}
 use Rattle.model.specs.Rules.{Obeys, Jobs, rule1, rule4, rule8}
-use Rattle.carrytheory.proofs.Recorded.{record_total, record_job}
+use Rattle.carrytheory.proofs.Recorded.{record_count_lem, record_job}
 use Rattle.waittheory.specs.WaitBound.{all_but, wait_times_N, others, greatest_of, greatest_times, OneSet}
 use Rattle.waittheory.proofs.Sums.{total, total_but_mono}
 use Rattle.waittheory.proofs.BoundedWait.{wait_bounded_by_times}
@@ -17,7 +17,7 @@ module _ (ρ ρ' : Run) (S : OneSet ρ ρ') (J : Jobs ρ) (J' : Jobs ρ') where
   same_existing = λ κ. jobs (S.tasks κ) (S.setting κ).horizon
 
   pub same_count : length ρ.records ≡ length ρ'.records
-  same_count = record_total ρ J ∙ ap length same_existing ∙ sym (record_total ρ' J')
+  same_count = record_count_lem ρ J ∙ ap length same_existing ∙ sym (record_count_lem ρ' J')
 
   pub same_job_lem : (k : ℕ) → IsRecord ρ k → job_of (rec ρ k) ≡ job_of (rec ρ' k)
   same_job_lem k h =

@@ -79,7 +79,7 @@ module _ {A : Type 0} (f : A → List ℕ) (d : A) (row : ℕ → List ℕ) (xs 
 -- ------------------
 module _ {h : Head} {H : ℕ} {l : List Task} {t : List ℕ} {m : ℕ} {σ : Run} (T : Tabled h H l t m σ) where
   pub few_tasks : h.tasks ≤ most_tasks
-  few_tasks = omega (arith, T.task_count_lem, T.table.limits.task_count_lem.1)
+  few_tasks = omega (arith, T.task_total, T.table.limits.task_total.1)
 
   task_is : (k : ℕ) → k < length σ.tasks → task_row l k ≡ task_numbers (task σ.tasks k)
   unfolding task_row
@@ -98,11 +98,11 @@ module _ {h : Head} {H : ℕ} {l : List Task} {t : List ℕ} {m : ℕ} {σ : Run
   bytes_are : bytes_of written ≡ bytes σ
   unfolding bytes
   bytes_are =
-      let tasks = rows_joined task_numbers no_task (task_row l) σ.tasks task_is h.tasks T.task_count_lem in
+      let tasks = rows_joined task_numbers no_task (task_row l) σ.tasks task_is h.tasks T.task_total in
       let records = rows_joined record_numbers no_record (record_row t m) σ.records record_is m T.table.count in
       let after : List ℕ = length σ.records ∷ joined record_numbers σ.records in
       let e : written ≡ 2 ∷ setting_numbers σ.setting ++ (length σ.tasks ∷ joined task_numbers σ.tasks) ++ after =
-      rw (tasks, records, append_assoc (joined task_numbers σ.tasks), T.setting, T.task_count_lem, T.table.count) in
+      rw (tasks, records, append_assoc (joined task_numbers σ.tasks), T.setting, T.task_total, T.table.count) in
       ap bytes_of e
 
   -- the head, the tasks, the record count and the records, one after the other

@@ -8,6 +8,6 @@ use Rattle.table.specs.Table.{Lent, recorded}
 
 pub record Tabled (h : Head) (H : ℕ) (l : List Task) (t : List ℕ) (n : ℕ) (σ : Run) : Type 0 where
   pub setting : σ.setting ≡ record { cores = h.setting.cores; horizon = H }
-  pub task_count_lem : h.tasks ≡ length σ.tasks
+  pub task_total : h.tasks ≡ length σ.tasks
   pub tasks : Leads σ l
   pub table : Lent recorded σ t n

@@ -46,7 +46,7 @@ few c =
 within : (c : tie.Then1 invariant-loop decreases-loop) → c.before.before.loop.i < most_tasks
 within c =
     let (ρ, K, L) = c.before.before.before.before.before.before.requires in
-    omega (arith, head_task_count ρ K.head, K.limits.task_count_lem.1)
+    omega (arith, head_task_count ρ K.head, K.limits.task_total.1)
 
 loop-holds : tie.Need-loop-init invariant-loop decreases-loop
 loop-holds c = (search rules, search rules, λ ρ K L. same_none ρ)
