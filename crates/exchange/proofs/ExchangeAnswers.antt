@@ -59,7 +59,7 @@ module _ (b T : List ℕ) (room : ℕ) where
     where
       go : {o : Outcome} → ImportSays b T room o → Outcomes 5 (λ n. n) o
       go (ImportSays.file_refused {ν = ν} {i = i} e) = Outcomes.refuses ν i refl
-      go (ImportSays.line_Refused {ν = ν} {n = n} e R) = Outcomes.refuses ν n refl
+      go (ImportSays.line_refused {ν = ν} {n = n} e R) = Outcomes.refuses ν n refl
       go (ImportSays.no_room e W t h) = Outcomes.refuses 11 0 refl
       go (ImportSays.taken {ρ = ρ} {xs = xs} e W t h) = Outcomes.gives refl refl
 
@@ -70,7 +70,7 @@ module _ (b T : List ℕ) (room : ℕ) where
     where
       go : {o : Outcome} → ImportSays b T room o → ImportRow o.told
       go (ImportSays.file_refused {ν = ν} {i = i} e) = import_file (refused_listed b ν i e)
-      go (ImportSays.line_Refused e R) = line_row R
+      go (ImportSays.line_refused e R) = line_row R
       go (ImportSays.no_room e W t h) = import_room
       go (ImportSays.taken {ρ = ρ} {xs = xs} e W t h) = import_written (length (bytes (imported ρ xs)))
 
@@ -80,7 +80,7 @@ module _ (b T : List ℕ) (room : ℕ) where
     where
       go : {o : Outcome} → ImportSays b T room o → FiveFit o.told
       go (ImportSays.file_refused {ν = ν} {i = i} e) = refusal_fits b B 8 ν i (omega arith) (refused_listed b ν i e) ((refused_exactly_when b ν i).0 e).1
-      go (ImportSays.line_Refused e R) = line_fits R
+      go (ImportSays.line_refused e R) = line_fits R
       go (ImportSays.no_room e W t h) = few_fit 4 11 0 (omega arith) (omega arith) (omega arith)
       go (ImportSays.taken {ρ = ρ} {xs = xs} e W t h) =
           let L = imported_within ρ xs W (read_limits b ρ e) in

@@ -60,7 +60,7 @@ module _ (b T : List ℕ) (room : ℕ) where
           subst (ImportSays b T room) (sym (by_room e q ∙ room_opens (bytes (imported ρ xs)) room l)) (ImportSays.taken e W t l)
 
       lines : {ρ : Run} → read b ≡ whole ρ → (o : Option (ℕ × ℕ)) → (table_read T).fault ≡ o → ImportSays b T room (import_table b T room)
-      lines {ρ} e (some p) q = subst (ImportSays b T room) (sym (by_line e q)) (ImportSays.line_Refused e ((refused_exactly T p.0 p.1).0 q))
+      lines {ρ} e (some p) q = subst (ImportSays b T room) (sym (by_line e q)) (ImportSays.line_refused e ((refused_exactly T p.0 p.1).0 q))
       lines {ρ} e none q =
           let xs : List Record = (table_read T).records in
           let all : table_read T ≡ all_taken xs = λ κ. record { records = (table_read T).records; fault = q κ } in
@@ -75,7 +75,7 @@ module _ (b T : List ℕ) (room : ℕ) where
     where
       from : {o : Outcome} → ImportSays b T room o → import_table b T room ≡ o
       from (ImportSays.file_refused e) = by_file e
-      from (ImportSays.line_Refused {ν = ν} {n = n} e R) = by_line e ((refused_exactly T ν n).1 R)
+      from (ImportSays.line_refused {ν = ν} {n = n} e R) = by_line e ((refused_exactly T ν n).1 R)
       from (ImportSays.no_room {ρ = ρ} {xs = xs} e W t h) = by_room e ((taken_exactly T xs).1 (W, t)) ∙ room_closes (bytes (imported ρ xs)) room h
       from (ImportSays.taken {ρ = ρ} {xs = xs} e W t h) = by_room e ((taken_exactly T xs).1 (W, t)) ∙ room_opens (bytes (imported ρ xs)) room h
 

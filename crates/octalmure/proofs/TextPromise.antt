@@ -79,7 +79,7 @@ pub record ExportedFrom (b out : List ℕ) : Type 0 where
 came_five : {b T : List ℕ} {room : ℕ} {w : Outcome} → ImportSays b T room w → w.told.answer ≡ 5 → (out : List ℕ) → out ≡ w.writes → ImportedFrom b T out
 unfolding written_out
 came_five (ImportSays.file_refused e) five out q = absurd (omega (arith, five))
-came_five (ImportSays.line_Refused e R) five out q = absurd (omega (arith, five))
+came_five (ImportSays.line_refused e R) five out q = absurd (omega (arith, five))
 came_five (ImportSays.no_room e W t h) five out q = absurd (omega (arith, five))
 came_five (ImportSays.taken {ρ = ρ} {xs = xs} e W t h) five out q = record { run = ρ; lines = xs; reads = e; taken = W; table = t; file = q }
 

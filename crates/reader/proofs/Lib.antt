@@ -1,4 +1,3 @@
 pub mod SectionStarts
 pub mod Parts
-pub mod Walk
 pub mod Once
