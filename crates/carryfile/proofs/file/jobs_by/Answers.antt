@@ -1,0 +1,14 @@
+use native.Mathlib.Omega.{arith}
+use Rattle.openfile.proofs.WholeOrRefused.{tells_size}
+use Rattle.carryfile.proofs.JobsTold.{none_out, jobs_told}
+use borrow.Author.Rules.{rules}
+use Rattle.carryfile.proofs.file.jobs_by.Goals as goal
+
+pub tally_tasks-requires : goal.tally_tasks-requires
+tally_tasks-requires c = let (ρ, T) = c.requires in omega (arith, tells_size T)
+
+pub returns-in-OutOfRange : goal.returns-in-OutOfRange
+returns c ρ T = absurd (none_out T c.before.before.before.tally_tasks.ensures c.before.i.given.1)
+
+pub returns-in-Jobs : goal.returns-in-Jobs
+returns-2 c ρ T = jobs_told T c.before.before.before.tally_tasks.ensures c.before.jobs.given.1

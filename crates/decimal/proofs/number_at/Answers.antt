@@ -1,0 +1,42 @@
+-- From the place on the text has the digits of the number so far, up to the byte that is looked at. Assumes nothing.
+use Prim.Native.Nat.{◌-◌}
+use mathlib.Core.Path.{refl}
+use mathlib.Core.Logic.{inl, inr}
+use native.Mathlib.Omega.{arith}
+use borrow.Author.Rules.{rules}
+use lib.ListN.{length}
+use Rattle.decimal.proofs.DigitByDigit.{Has, has_first, has_more, has_number, bad_front, bad_byte, bad_digit, bad_end}
+use Rattle.decimal.proofs.number_at.Goals as goal
+
+pub returns-then-s-at : goal.returns-then-s-at
+returns c w rest = let a = c.before.args in bad_front a.s.now a.at (λ h. omega arith)
+
+pub returns-then-first-lt48 : goal.returns-then-first-lt48
+returns-2 c w rest = let a = c.before.before.before.args in bad_front a.s.now a.at (λ h. omega arith)
+
+pub returns-then-first-gt57 : goal.returns-then-first-gt57
+returns-3 c w rest = let a = c.before.before.before.before.args in bad_front a.s.now a.at (λ h. omega arith)
+
+pub loop-i-init : goal.loop-i-init
+loop-i-init c = has_first _ _ (omega arith) (omega arith) (omega arith)
+
+pub returns-then-b-stop : goal.returns-then-b-stop
+returns-then-b-stop c = has_number _ _ (omega arith) c.loop-i.invariant c.if-b-stop.true
+
+pub returns-then-b-lt48 : goal.returns-then-b-lt48
+returns-5 c w rest = bad_byte _ _ (omega arith) c.before.before.before.before.loop.invariant (omega arith) c.before.if4.false (λ h. omega arith)
+
+pub returns-then-b-gt57 : goal.returns-then-b-gt57
+returns-6 c w rest = bad_byte _ _ (omega arith) c.before.before.before.before.before.loop.invariant (omega arith) c.before.before.if4.false (λ h. omega arith)
+
+pub returns-then-v-eq0 : goal.returns-then-v-eq0
+returns-7 c w rest = bad_digit _ _ (omega arith) c.before.before.before.before.before.before.loop.invariant (omega arith) c.before.before.before.if4.false (inl (omega arith))
+
+pub returns-then-w-gt4294967295 : goal.returns-then-w-gt4294967295
+returns-8 c w rest = bad_digit _ _ (omega arith) c.before.before.before.before.before.before.before.loop.invariant (omega arith) c.before.before.before.before.if4.false (inr (omega arith))
+
+pub loop-i-preserved : goal.loop-i-preserved
+loop-i-preserved c = has_more _ _ (omega arith) c.loop-i.invariant (λ e. omega arith) (omega arith) (omega arith) refl (omega arith)
+
+pub returns : goal.returns
+returns-9 c w rest = bad_end c.before.loop.invariant (omega arith) (omega arith)

@@ -1,0 +1,15 @@
+-- Rule 8: each record's wait is looked at, the first record first. Assumes nothing.
+use Prim.Native.Nat.{◌-◌, ◌≤◌}
+use mathlib.Core.Path.{sym, ◌∙◌, ap}
+use native.Mathlib.Omega.{arith}
+use borrow.Author.Rules.{rules}
+use Rattle.base.specs.Find.{seen_two}
+use Rattle.base.proofs.Loop.{NothingTo, nothing_yet, nothing_on, first_of_hit, first_of_miss}
+use Rattle.idle.specs.Idle.{idle_in}
+use Rattle.idle.proofs.idle_over.Given as goal
+
+abbrev pub invariant-loop-a : goal.invariant-loop-a
+invariant-loop-a l = (l.a ≤ l.n) × NothingTo (idle_in l.start l.end l.core l.cores l.ready) 0 l.a
+
+abbrev pub decreases-loop-a : goal.decreases-loop-a
+decreases-loop-a l = l.n - l.a

@@ -1,0 +1,24 @@
+-- 11, or the file is written. Assumes nothing.
+use native.Mathlib.Omega.{arith}
+use Rattle.importfile.proofs.WaysOfImport.{size_fits, importable, says_11, says_5}
+use borrow.Author.Rules.{rules}
+use Rattle.importfile.proofs.file.import_rows.Goals as goal
+
+pub returns-then-output-size : goal.returns-then-output-size
+returns c ρ xs K W R = says_11 K W R _ c.before.type_size.ensures c.if1.true
+
+pub write_import-requires : goal.write_import-requires
+write_import-requires c =
+    let (ρ, xs, K, W, R) = c.requires in
+    (ρ, xs, importable K W R _ c.size_of-size.ensures c.if-output-size.false)
+
+pub overflow_cast-result : goal.overflow_cast-result
+overflow_cast-result c =
+    let (ρ, xs, K, W, R) = c.requires in
+    omega (arith, size_fits K W R, c.size_of-size.ensures)
+
+pub returns : goal.returns
+returns-2 c ρ xs K W R =
+    let size = c.before.before.before.before.before.type_size.ensures in
+    let room = c.before.before.before.before.if1.false in
+    says_5 K W R _ size room (c.before.before.write-import.ensures ρ xs (importable K W R _ size room))

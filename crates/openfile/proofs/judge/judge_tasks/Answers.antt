@@ -1,0 +1,27 @@
+use borrow.Author.Rules.{rules}
+use native.Mathlib.Omega.{arith}
+use Rattle.model.proofs.Reading.{length-entries}
+use Rattle.openfile.proofs.WaysOut.{tasks_uncounted, tasks_miscounted, tasks_cut, tasks_out, jobs_many, tasks_fine}
+use Rattle.openfile.proofs.Tallied.{tallied_out, tallied_jobs}
+use Rattle.openfile.proofs.judge.judge_tasks.Goals as goal
+
+pub returns-then-file : goal.returns-then-file
+returns-then-file c = tasks_uncounted _ _ (omega arith)
+
+pub returns-then-n-lt1 : goal.returns-then-n-lt1
+returns-then-n-lt1 c = tasks_miscounted _ _ (omega arith) (λ h. omega arith)
+
+pub returns-then-n-gt-MOST : goal.returns-then-n-gt-MOST
+returns-then-n-gt-MOST c = tasks_miscounted _ _ (omega arith) (λ h. omega arith)
+
+pub returns-then-file-records_place : goal.returns-then-file-records_place
+returns-then-file-records_place c = tasks_cut _ _ (omega arith)
+
+pub returns-then-jobs : goal.returns-then-jobs
+returns-then-jobs c = jobs_many _ _ (omega arith) c.num_at-n.ensures (tallied_jobs c.tally_tasks.ensures c.in-Jobs.is) (omega arith)
+
+pub returns-in-OutOfRange : goal.returns-in-OutOfRange
+returns-in-OutOfRange c = tasks_out _ _ (omega arith) c.num_at-n.ensures (tallied_out c.tally_tasks.ensures c.in-OutOfRange.is)
+
+pub returns-else-jobs : goal.returns-else-jobs
+returns-else-jobs c = tasks_fine _ _ (omega arith) c.num_at-n.ensures (tallied_jobs c.tally_tasks.ensures c.in-Jobs.is) (omega arith) (c.judge_records.ensures _ (length-entries _ _ _ _))

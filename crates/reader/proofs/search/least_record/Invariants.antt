@@ -1,0 +1,16 @@
+use borrow.Author.Rules.{rules}
+use Prim.Native.Nat.{◌≤◌, ◌+◌, ◌*◌, ◌-◌}
+use mathlib.Core.Path.{◌≡◌, sym, ◌∙◌, ap}
+use mathlib.Core.Bool.{Bool}
+use native.Mathlib.Omega.{arith}
+use Rattle.base.proofs.Loop.{NoneTo, none_yet, none_on, first_hit, first_miss}
+use Rattle.model.specs.declared.record.Record.{Record}
+use Rattle.model.specs.Model.{Job, job_of, same_job}
+use Rattle.model.specs.File.{record_at, record_size}
+use Rattle.reader.proofs.search.least_record.Given as goal
+
+abbrev pub invariant-loop-k : goal.invariant-loop-k
+invariant-loop-k l = (l.k ≤ l.n) × NoneTo (λ j. same_job (job_of (record_at l.file (l.at + record_size * j))) (l.task, l.job)) 0 l.k
+
+abbrev pub decreases-loop-k : goal.decreases-loop-k
+decreases-loop-k l = l.n - l.k

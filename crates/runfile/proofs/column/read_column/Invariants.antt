@@ -1,0 +1,15 @@
+use borrow.Author.Rules.{rules}
+use Prim.Native.Nat.{◌+◌, ◌*◌, ◌-◌, ◌≤◌}
+use mathlib.Core.Path.{◌≡◌}
+use native.Mathlib.Omega.{arith}
+use lib.ListN.{length}
+use Rattle.base.specs.Fill.{Fills}
+use Rattle.base.proofs.Fill.{fills_none, fills_on}
+use Rattle.model.specs.File.{num, record_size}
+use Rattle.runfile.proofs.column.read_column.Given as goal
+
+abbrev pub invariant-loop-k : goal.invariant-loop-k
+invariant-loop-k l = (l.k ≤ l.n) × (length l.t ≡ length l.initial.t) × Fills l.initial.t l.from l.k (λ i. num l.file (l.at + record_size * i)) l.t
+
+abbrev pub decreases-loop-k : goal.decreases-loop-k
+decreases-loop-k l = l.n - l.k

@@ -1,0 +1,16 @@
+-- The last ends, job by job. Assumes nothing.
+use Prim.Native.Nat.{◌-◌, ◌≤◌}
+use mathlib.Core.Path.{◌≡◌, refl}
+use native.Mathlib.Omega.{arith}
+use borrow.Author.Rules.{rules}
+use lib.ListN.{length, get_or}
+use Rattle.model.specs.Model.{most_cores}
+use Rattle.starts.specs.Cores.{Lasts}
+use Rattle.starts.proofs.Taking.{zeros, no_ends, one_end}
+use Rattle.starts.proofs.cores.last_ends.Given as goal
+
+abbrev pub invariant-loop-k : goal.invariant-loop-k
+invariant-loop-k l = (l.k ≤ length l.core) × Lasts l.k l.core l.end l.taken.ends
+
+abbrev pub decreases-loop-k : goal.decreases-loop-k
+decreases-loop-k l = length l.core - l.k

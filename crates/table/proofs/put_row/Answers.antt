@@ -1,0 +1,45 @@
+use borrow.Author.Rules.{rules}
+use Prim.Native.Nat.{◌+◌, ◌*◌, ◌-◌, ◌≤◌}
+use mathlib.Core.Path.{◌≡◌}
+use native.Mathlib.Omega.{arith}
+use lib.ListN.{length, take}
+use Rattle.table.specs.Table.{columns, PutRow}
+use Rattle.table.proofs.ColumnsApart.{column_within}
+use Rattle.table.proofs.OneRow.{put_none, put_on}
+use Rattle.table.proofs.put_row.Goals as goal
+use Rattle.table.proofs.put_row.Goals.{In-loop-i}
+
+-- where the number stands
+within : (c : tie.In-loop invariant-loop decreases-loop)
+    → (c.before.before.args.j + c.before.loop.i) * c.before.before.args.n + c.before.before.args.n ≤ length c.before.loop.t
+within c =
+    let a = c.before.before.args in
+    omega (arith, column_within columns (a.j + c.before.loop.i) a.n (omega arith))
+
+pub loop-i-init : goal.loop-i-init
+loop-i-init c = (search rules, search rules, put_none _ _ _ _)
+
+pub overflow_mul-t : goal.overflow_mul-t
+overflow_mul-t c = omega (arith, within ((goal.at.overflow_mul-t c).In-loop-i))
+
+pub overflow_add-t-in-loop-i : goal.overflow_add-t-in-loop-i
+overflow_add-t-in-loop-i c = omega (arith, within ((goal.at.overflow_add-t-in-loop-i c).In-loop-i))
+
+pub offset_bounds-t-j : goal.offset_bounds-t-j
+offset_bounds-t-j c = omega (arith, within ((goal.at.offset_bounds-t-j c).In-loop-i))
+
+pub bounds-t-j : goal.bounds-t-j
+bounds-t-j c = omega (arith, within ((goal.at.bounds-t-j c).In-loop-i))
+
+pub loop-i-preserved : goal.loop-i-preserved
+loop-i-preserved c =
+    let w = within ((goal.at.loop-i-preserved c).In-loop-i) in
+    let a = c.args in
+    let seven : length a.t5 ≡ 7 = c.well-formed.1.1.1.1.0.1.0.1 in
+    let p = put_on a.t5 c.loop-i.i c.loop-i.invariant.2 (omega arith) (omega arith) (omega arith) in
+    (omega arith, p.long, p)
+
+pub returns : goal.returns
+returns c =
+    let e : c.loop-i.i ≡ c.args.count = omega arith in
+    rw (← e) c.loop-i.invariant.2

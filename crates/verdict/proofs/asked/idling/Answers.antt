@@ -1,0 +1,13 @@
+-- Rule 8 is asked of the columns of ready instants, starts, ends and cores. Assumes nothing.
+use mathlib.Core.Path.{◌∙◌, ap}
+use mathlib.Core.Option.{map}
+use native.Mathlib.Omega.{arith}
+use borrow.Author.Rules.{rules}
+use Rattle.model.specs.Compute.Places.{three}
+use Rattle.verdict.proofs.Tied.{column_is, idle_tied}
+use Rattle.verdict.proofs.asked.idling.Goals as goal
+
+pub returns : goal.returns
+returns c ρ L e =
+    ap (map three) c.idle_place.ensures
+    ∙ idle_tied (column_is L 3 (omega arith) (omega arith) c.before.before.before.column2.ensures.0) (column_is L 4 (omega arith) (omega arith) c.before.before.column3.ensures.0) (column_is L 5 (omega arith) (omega arith) c.before.column4.ensures.0) e (column_is L 12 (omega arith) (omega arith) c.before.before.before.before.column.ensures.0)

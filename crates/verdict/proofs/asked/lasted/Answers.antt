@@ -1,0 +1,13 @@
+-- Rule 4 is asked of the columns of starts, ends, least and greatest times. Assumes nothing.
+use mathlib.Core.Path.{◌∙◌, ap}
+use mathlib.Core.Option.{map}
+use native.Mathlib.Omega.{arith}
+use borrow.Author.Rules.{rules}
+use Rattle.model.specs.Compute.Places.{one}
+use Rattle.verdict.proofs.Tied.{column_is, length-tied}
+use Rattle.verdict.proofs.asked.lasted.Goals as goal
+
+pub returns : goal.returns
+returns c ρ L =
+    ap (map one) c.record_place_lem.ensures
+    ∙ length-tied (column_is L 3 (omega arith) (omega arith) c.before.before.before.before.column.ensures.0) (column_is L 4 (omega arith) (omega arith) c.before.before.before.column2.ensures.0) (column_is L 8 (omega arith) (omega arith) c.before.before.column3.ensures.0) (column_is L 9 (omega arith) (omega arith) c.before.column4.ensures.0)

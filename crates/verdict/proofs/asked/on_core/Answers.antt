@@ -1,0 +1,13 @@
+-- Rule 5 is asked of the column of cores. Assumes nothing.
+use mathlib.Core.Path.{◌∙◌, ap}
+use mathlib.Core.Option.{map}
+use native.Mathlib.Omega.{arith}
+use borrow.Author.Rules.{rules}
+use Rattle.model.specs.Compute.Places.{one}
+use Rattle.verdict.proofs.Tied.{column_is, core_tied}
+use Rattle.verdict.proofs.asked.on_core.Goals as goal
+
+pub returns : goal.returns
+returns c ρ L e =
+    ap (map one) c.record_place_lem.ensures
+    ∙ core_tied e (column_is L 5 (omega arith) (omega arith) c.before.column.ensures.0)

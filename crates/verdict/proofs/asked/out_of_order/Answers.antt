@@ -1,0 +1,13 @@
+-- Rule 7 is asked of the columns of ranks, ready instants and starts. Assumes nothing.
+use mathlib.Core.Path.{◌∙◌, ap}
+use mathlib.Core.Option.{map}
+use native.Mathlib.Omega.{arith}
+use borrow.Author.Rules.{rules}
+use Rattle.model.specs.Compute.Places.{two}
+use Rattle.verdict.proofs.Tied.{column_is, order_tied}
+use Rattle.verdict.proofs.asked.out_of_order.Goals as goal
+
+pub returns : goal.returns
+returns c ρ L =
+    ap (map two) c.order_place.ensures
+    ∙ order_tied (column_is L 11 (omega arith) (omega arith) c.before.before.before.column.ensures.0) (column_is L 12 (omega arith) (omega arith) c.before.before.column2.ensures.0) (column_is L 3 (omega arith) (omega arith) c.before.column3.ensures.0)

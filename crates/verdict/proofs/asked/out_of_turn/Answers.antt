@@ -1,0 +1,13 @@
+-- Rule 9 is asked, where rule 3 holds, of the columns of ready instants and starts. Assumes nothing.
+use mathlib.Core.Path.{◌∙◌, ap}
+use mathlib.Core.Option.{map}
+use native.Mathlib.Omega.{arith}
+use borrow.Author.Rules.{rules}
+use Rattle.model.specs.Compute.Places.{one}
+use Rattle.verdict.proofs.Tied.{column_is, turn_tied}
+use Rattle.verdict.proofs.asked.out_of_turn.Goals as goal
+
+pub returns : goal.returns
+returns c ρ L s =
+    ap (map one) c.record_place_lem.ensures
+    ∙ turn_tied s (column_is L 12 (omega arith) (omega arith) c.before.column2.ensures.0) (column_is L 3 (omega arith) (omega arith) c.before.before.column.ensures.0)

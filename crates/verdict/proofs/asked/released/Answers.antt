@@ -1,0 +1,13 @@
+-- Rule 2 is asked of the columns of earliest, release and latest instants. Assumes nothing.
+use mathlib.Core.Path.{◌∙◌, ap}
+use mathlib.Core.Option.{map}
+use native.Mathlib.Omega.{arith}
+use borrow.Author.Rules.{rules}
+use Rattle.model.specs.Compute.Places.{one}
+use Rattle.verdict.proofs.Tied.{column_is, release_tied}
+use Rattle.verdict.proofs.asked.released.Goals as goal
+
+pub returns : goal.returns
+returns c ρ L =
+    ap (map one) c.record_place_lem.ensures
+    ∙ release_tied (column_is L 6 (omega arith) (omega arith) c.before.before.column2.ensures.0) (column_is L 2 (omega arith) (omega arith) c.before.column3.ensures.0) (column_is L 7 (omega arith) (omega arith) c.before.before.before.column.ensures.0)

@@ -1,0 +1,12 @@
+use mathlib.Core.Path.{◌≡◌}
+use borrow.Author.Rules.{rules}
+use Rattle.whyfile.proofs.file.trace.Goals as goal
+
+pub write_chain-requires : goal.write_chain-requires
+write_chain-requires c =
+    let (S, l, (ρ, T, O)) = c.requires in
+    (l, (ρ, record { table = (c.read_table.ensures ρ T).lent; obeys = O }))
+
+pub returns : goal.returns
+returns c ρ T O =
+    c.before.before.write_chain.ensures ρ (record { table = (c.before.before.before.before.before.before.before.before.read_table.ensures ρ T).lent; obeys = O })
