@@ -9,13 +9,13 @@ use Rattle.decimal.proofs.DigitByDigit.{Has, has_first, has_more, has_number, ba
 use Rattle.decimal.proofs.number_at.Goals as goal
 
 pub returns-then-s-at : goal.returns-then-s-at
-returns c w rest = let a = c.before.args in bad_front a.s.now a.at (λ h. omega arith)
+returns-then-s-at c w rest = let a = c.args in bad_front a.s.now a.at (λ h. omega arith)
 
 pub returns-then-first-lt48 : goal.returns-then-first-lt48
-returns-2 c w rest = let a = c.before.before.before.args in bad_front a.s.now a.at (λ h. omega arith)
+returns-then-first-lt48 c w rest = let a = c.args in bad_front a.s.now a.at (λ h. omega arith)
 
 pub returns-then-first-gt57 : goal.returns-then-first-gt57
-returns-3 c w rest = let a = c.before.before.before.before.args in bad_front a.s.now a.at (λ h. omega arith)
+returns-then-first-gt57 c w rest = let a = c.args in bad_front a.s.now a.at (λ h. omega arith)
 
 pub loop-i-init : goal.loop-i-init
 loop-i-init c = has_first _ _ (omega arith) (omega arith) (omega arith)
@@ -24,19 +24,19 @@ pub returns-then-b-stop : goal.returns-then-b-stop
 returns-then-b-stop c = has_number _ _ (omega arith) c.loop-i.invariant c.if-b-stop.true
 
 pub returns-then-b-lt48 : goal.returns-then-b-lt48
-returns-5 c w rest = bad_byte _ _ (omega arith) c.before.before.before.before.loop.invariant (omega arith) c.before.if4.false (λ h. omega arith)
+returns-then-b-lt48 c w rest = bad_byte _ _ (omega arith) c.loop-i.invariant (omega arith) c.if-b-stop.false (λ h. omega arith)
 
 pub returns-then-b-gt57 : goal.returns-then-b-gt57
-returns-6 c w rest = bad_byte _ _ (omega arith) c.before.before.before.before.before.loop.invariant (omega arith) c.before.before.if4.false (λ h. omega arith)
+returns-then-b-gt57 c w rest = bad_byte _ _ (omega arith) c.loop-i.invariant (omega arith) c.if-b-stop.false (λ h. omega arith)
 
 pub returns-then-v-eq0 : goal.returns-then-v-eq0
-returns-7 c w rest = bad_digit _ _ (omega arith) c.before.before.before.before.before.before.loop.invariant (omega arith) c.before.before.before.if4.false (inl (omega arith))
+returns-then-v-eq0 c w rest = bad_digit _ _ (omega arith) c.loop-i.invariant (omega arith) c.if-b-stop.false (inl (omega arith))
 
 pub returns-then-w-gt4294967295 : goal.returns-then-w-gt4294967295
-returns-8 c w rest = bad_digit _ _ (omega arith) c.before.before.before.before.before.before.before.loop.invariant (omega arith) c.before.before.before.before.if4.false (inr (omega arith))
+returns-then-w-gt4294967295 c w rest = bad_digit _ _ (omega arith) c.loop-i.invariant (omega arith) c.if-b-stop.false (inr (omega arith))
 
 pub loop-i-preserved : goal.loop-i-preserved
 loop-i-preserved c = has_more _ _ (omega arith) c.loop-i.invariant (λ e. omega arith) (omega arith) (omega arith) refl (omega arith)
 
 pub returns : goal.returns
-returns-9 c w rest = bad_end c.before.loop.invariant (omega arith) (omega arith)
+returns c w rest = bad_end c.loop-i.invariant (omega arith) (omega arith)

@@ -29,12 +29,7 @@ fill_times-requires-3 c =
 
 pub returns : goal.returns
 returns c ρ C =
-    let ordered = c.before.before in
-    let lasting = ordered.before.before.before.before in
-    let released = lasting.before.before.before.before in
-    let opened = released.before.before.before.before in
-    let listed = opened.before.before.before.before in
-    let table = opened.open-records.ensures ρ _ C (listed.list-jobs.ensures (opening ρ _) (stands_jobs C)) in
-    let releases = released.fill_times.ensures (opening ρ _) (stands_listed C table) in
-    let lengths = lasting.fill-times2.ensures (opening ρ _) (stands_listed C releases.lent) in
-    (ordered.fill-times3.ensures (opening ρ _) (stands_listed C lengths.lent)).lent
+    let table = c.open_records.ensures ρ _ C (c.list_jobs.ensures (opening ρ _) (stands_jobs C)) in
+    let releases = c.fill_times.ensures (opening ρ _) (stands_listed C table) in
+    let lengths = c.fill_times-2.ensures (opening ρ _) (stands_listed C releases.lent) in
+    (c.fill_times-3.ensures (opening ρ _) (stands_listed C lengths.lent)).lent

@@ -13,23 +13,20 @@ use Rattle.starts.proofs.start_all.Goals as goal
 use Rattle.starts.proofs.start_all.Goals.{In-At}
 
 -- the job that is found
-found : (c : tie.After-known-told invariant-loop decreases-loop)
-    → let y = c.before.before.before.before.before.before.before in
-    let t = y.loop.t in
-    let n = y.before.before.before.before.before.before.args.n in
-    Chosen n (max y.loop.at y.loop.taken.least) (column_of n t 5) (column_of n t 1) (column_of n t 12) (column_of n t 11)
-    c.before.u.given.0.0 c.before.u.given.0.1.0
+found : (c : In-At)
+    → let t = c.loop-left.t in
+    let n = c.args.n in
+    Chosen n (max c.loop-left.at c.loop-left.taken.least) (column_of n t 5) (column_of n t 1) (column_of n t 12) (column_of n t 11)
+    c.in-At.u c.in-At.job
 found c =
-    let y = c.before.before.before in
-    rw y.before.before.later.ensures at (y.next-job.ensures.chosen _ _ (ap seen_two c.before.u.given.1))
+    rw c.later.ensures at (c.next_job.ensures.chosen _ _ (ap seen_two c.in-At.is))
 
 -- how far the carry of the run at hand has come
-reached : (c : tie.After-known-told invariant-loop decreases-loop)
-    → let y = c.before.before.before.before.before.before.before in
-    let a = y.before.before.before.before.before.before.args in
-    let p = y.before.before.before.before.before.before.requires in
-    Reached (opening p.0 p.1) a.horizon a.cores y.loop.t a.n y.loop.taken y.loop.at y.loop.left
-reached c = let p = c.before.before.before.before.before.before.before.before.before.before.before.before.before.requires in c.before.before.before.before.before.before.before.loop.invariant.reached p.0 p.1 p.2
+reached : (c : In-At)
+    → let a = c.args in
+    let p = c.requires in
+    Reached (opening p.0 p.1) a.horizon a.cores c.loop-left.t a.n c.loop-left.taken c.loop-left.at c.loop-left.left
+reached c = let p = c.requires in c.loop-left.invariant.reached p.0 p.1 p.2
 
 pub free_cores-taken-requires : goal.free_cores-taken-requires
 free_cores-taken-requires c =

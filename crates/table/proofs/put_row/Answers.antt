@@ -10,11 +10,11 @@ use Rattle.table.proofs.put_row.Goals as goal
 use Rattle.table.proofs.put_row.Goals.{In-loop-i}
 
 -- where the number stands
-within : (c : tie.In-loop invariant-loop decreases-loop)
-    → (c.before.before.args.j + c.before.loop.i) * c.before.before.args.n + c.before.before.args.n ≤ length c.before.loop.t
+within : (c : In-loop-i)
+    → (c.args.j + c.loop-i.i) * c.args.n + c.args.n ≤ length c.loop-i.t
 within c =
-    let a = c.before.before.args in
-    omega (arith, column_within columns (a.j + c.before.loop.i) a.n (omega arith))
+    let a = c.args in
+    omega (arith, column_within columns (a.j + c.loop-i.i) a.n (omega arith))
 
 pub loop-i-init : goal.loop-i-init
 loop-i-init c = (search rules, search rules, put_none _ _ _ _)

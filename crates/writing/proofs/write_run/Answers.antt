@@ -13,11 +13,6 @@ write_records-requires c =
 
 pub returns : goal.returns
 returns c σ T =
-    let four = c.before.before in
-    let three = four.before.before.before.before in
-    let two = three.before.before.before.before in
-    let one = two.before.before.before.before in
-    let place = one.before.before in
     wrote_run
-    T one.write-head.ensures two.write-tasks.ensures place.records_place_lem.ensures (wrote_put three.put_u32.ensures (search rules))
-    four.write-records.ensures
+    T c.write_head.ensures c.write_tasks.ensures c.records_place-at.ensures (wrote_put c.put_u32.ensures (search rules))
+    c.write_records.ensures

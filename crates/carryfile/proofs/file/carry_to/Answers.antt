@@ -28,10 +28,10 @@ accepted : (c : Else-not-accepted) → let a = c.args in (ρ : Run)
 accepted c ρ T = obeys ρ (c.accepts_run-accepted.ensures ρ T (leads {-After-tasks_of-tasks-}c ρ T)) c.if-not-accepted.false-raw
 
 pub returns-then-not-accepted : goal.returns-then-not-accepted
-returns c ρ T R m = says_10 T _ _ R (c.before.accepts_run.ensures ρ T (leads c.before.before ρ T)) c.if1.true
+returns-then-not-accepted c ρ T R m = says_10 T _ _ R (c.accepts_run-accepted.ensures ρ T (leads ((goal.at.returns-then-not-accepted c).After-tasks_of-tasks) ρ T)) c.if-not-accepted.true-raw
 
 pub returns-then-not-fits : goal.returns-then-not-fits
-returns-2 c ρ T R m = says_11 T _ _ R (accepted c.before ρ T) m c.before.before.before.before.type_size.ensures c.if2.true
+returns-then-not-fits c ρ T R m = says_11 T _ _ R (accepted ((goal.at.returns-then-not-fits c).Else-not-accepted) ρ T) m c.size_of-size.ensures c.if-not-fits.true-raw
 
 -- a file that fits can be written
 may_write : (c : Else-not-fits) → let a = c.args in (ρ : Run)
@@ -54,8 +54,8 @@ overflow_cast-result c =
     omega (arith, few, few_jobs W, c.size_of-size.ensures)
 
 pub returns : goal.returns
-returns-3 c ρ T R m =
-    let O = accepted c.before.before.before.before.before ρ T in
-    let W = may_write c.before.before.before.before ρ T R m in
-    let size = c.before.before.before.before.before.before.before.before.type_size.ensures in
-    says_5 T _ _ R O m size c.before.before.before.before.if2.false (c.before.before.write_carry.ensures ρ W)
+returns c ρ T R m =
+    let O = accepted ((goal.at.returns c).Else-not-accepted) ρ T in
+    let W = may_write ((goal.at.returns c).Else-not-fits) ρ T R m in
+    let size = c.size_of-size.ensures in
+    says_5 T _ _ R O m size c.if-not-fits.false-raw (c.write_carry.ensures ρ W)

@@ -8,7 +8,7 @@ pub tally_tasks-requires : goal.tally_tasks-requires
 tally_tasks-requires c = let (ρ, T) = c.requires in omega (arith, tells_size T)
 
 pub returns-in-OutOfRange : goal.returns-in-OutOfRange
-returns c ρ T = absurd (none_out T c.before.before.before.tally_tasks.ensures c.before.i.given.1)
+returns-in-OutOfRange c ρ T = absurd (none_out T c.tally_tasks.ensures c.in-OutOfRange.is)
 
 pub returns-in-Jobs : goal.returns-in-Jobs
-returns-2 c ρ T = jobs_told T c.before.before.before.tally_tasks.ensures c.before.jobs.given.1
+returns-in-Jobs c ρ T = jobs_told T c.tally_tasks.ensures c.in-Jobs.is

@@ -14,9 +14,9 @@ overflow_sub-result c =
     (own_before L l J (sym (c.own_ended-own.ensures ρ J L) ∙ c.if-own.true)).0
 
 pub returns-then-own : goal.returns-then-own
-returns c ρ J L late =
-    let e = sym (c.before.own-ended.ensures ρ J L) ∙ c.if1.true in
-    own_is ρ _ late _ e (own_before L c.before.before.before.requires.0 J e).1
+returns-then-own c ρ J L late =
+    let e = sym (c.own_ended-own.ensures ρ J L) ∙ c.if-own.true in
+    own_is ρ _ late _ e (own_before L c.requires.0 J e).1
 
 pub column-requires : goal.column-requires
 column-requires c = let (l, (ρ, J, L)) = c.requires in (L.sized, omega arith)
@@ -25,9 +25,9 @@ pub column-requires-2 : goal.column-requires-2
 column-requires-2 c = let (l, (ρ, J, L)) = c.requires in (L.sized, omega arith)
 
 pub returns : goal.returns
-returns-2 c ρ J L late =
-    let b = sym (c.before.before.before.before.before.before.own-ended.ensures ρ J L) ∙ c.before.before.before.before.before.if1.false in
-    let l = c.before.before.before.before.before.before.before.before.requires.0 in
+returns c ρ J L late =
+    let b = sym (c.own_ended-own.ensures ρ J L) ∙ c.if-own.false in
+    let l = c.requires.0 in
     core_is ρ _ late b
-    (c.core-ended.ensures
-    ∙ core_tied L l c.before.before.before.before.column.ensures.0 c.before.before.before.column2.ensures.0 refl refl)
+    (c.core_ended.ensures
+    ∙ core_tied L l c.column.ensures.0 c.column-2.ensures.0 refl refl)

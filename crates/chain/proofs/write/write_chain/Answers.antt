@@ -19,9 +19,9 @@ overflow_mul-count c =
     omega (arith, few)
 
 pub returns-then-output-count : goal.returns-then-output-count
-returns c ρ T =
-    let l = c.before.before.before.before.before.before.requires.0 in
-    says_11 T l (c.before.before.why-began.ensures ρ _ T (its_chain T l)) _ c.if1.true
+returns-then-output-count c ρ T =
+    let l = c.requires.0 in
+    says_11 T l (c.why_began-count.ensures ρ _ T (its_chain T l)) _ c.if-output-count.true
 
 pub why_began-requires : goal.why_began-requires
 why_began-requires c =
@@ -36,7 +36,7 @@ overflow_cast-result c =
     omega (arith, few)
 
 pub returns : goal.returns
-returns-2 c ρ T =
-    let l = c.before.before.before.before.before.before.before.before.before.before.requires.0 in
+returns c ρ T =
+    let l = c.requires.0 in
     let chain = its_chain T l in
-    says_6 T l (c.before.before.before.before.before.before.why-began.ensures ρ _ T chain) _ _ c.before.before.before.before.if1.false (c.before.before.why-began2.ensures ρ _ T chain)
+    says_6 T l (c.why_began-count.ensures ρ _ T chain) _ _ c.if-output-count.false (c.why_began.ensures ρ _ T chain)

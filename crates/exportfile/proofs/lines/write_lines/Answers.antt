@@ -21,21 +21,21 @@ put_bytes-next-requires c =
     omega (arith, ap length c.header_line-header.ensures, length-header, size)
 
 -- the header is written
-headed : (c : tie.After-put-bytes invariant-loop decreases-loop) → let a = c.before.before.before.before.before.before.before.args in
-    Wrote a.output.now 0 header c.put_bytes.new.0 c.put_bytes.result
-headed c = rw c.before.before.before.header_line.ensures at c.put_bytes.ensures
+headed : (c : After-put_bytes-next) → let a = c.args in
+    Wrote a.output.now 0 header c.put_bytes-next.new.0 c.put_bytes-next.result
+headed c = rw c.header_line-header.ensures at c.put_bytes-next.ensures
 
 pub loop-k-init : goal.loop-k-init
 loop-k-init c = (omega arith, wrote_none _ refl)
 
 -- there is room for one line more
-room : (c : tie.After-record-at invariant-loop decreases-loop) → let loop = c.before.before.before.before.loop in
-    loop.next + length (record_line c.record_at_lem.result) ≤ length loop.output
+room : (c : After-record_at) → let loop = c.loop-k in
+    loop.next + length (record_line c.record_at.result) ≤ length loop.output
 room c =
-    let a = c.before.before.before.before.before.before.before.before.before.before.before.before.before.before.args in
-    let loop = c.before.before.before.before.loop in
-    let line = ap (λ x. length (record_line x)) c.record_at_lem.ensures in
-    let start = headed c.before.before.before.before.before.before.before in
+    let a = c.args in
+    let loop = c.loop-k in
+    let line = ap (λ x. length (record_line x)) c.record_at.ensures in
+    let start = headed {-After-put_bytes-next-}c in
     omega (arith, loop.invariant.1, start, length-header, line, line_fits a.file.now a.at a.order.now loop.k (omega arith))
 
 pub put_record-next-requires : goal.put_record-next-requires

@@ -11,9 +11,9 @@ use Rattle.exportfile.proofs.rising.records_rise.Goals as goal
 use Rattle.exportfile.proofs.rising.records_rise.Goals.{After-goes_before}
 
 -- what the test of two neighbours says
-tested : (c : tie.After-goes-before invariant-loop decreases-loop) → let a = c.before.before.before.before.before.before.args in
-    stays a.file.now a.at c.before.before.before.loop.k ≡ not c.goes_before.result
-tested c = stays_is _ _ _ c.goes_before.ensures c.before.before.before.loop.invariant.2 c.before.record-at2.ensures
+tested : (c : After-goes_before) → let a = c.args in
+    stays a.file.now a.at c.loop-k.k ≡ not c.goes_before.result
+tested c = stays_is _ _ _ c.goes_before.ensures c.loop-k.invariant.2 c.record_at-next.ensures
 
 pub returns-then-not-goes_before : goal.returns-then-not-goes_before
 returns-then-not-goes_before c = rises_not _ _ c.loop-k.invariant.1 (omega arith) (tested ((goal.at.returns-then-not-goes_before c).After-goes_before) ∙ c.if-not-goes_before.true-raw)

@@ -5,7 +5,7 @@ use borrow.Author.Rules.{rules}
 use Rattle.importfile.proofs.file.import_rows.Goals as goal
 
 pub returns-then-output-size : goal.returns-then-output-size
-returns c ρ xs K W R = says_11 K W R _ c.before.type_size.ensures c.if1.true
+returns-then-output-size c ρ xs K W R = says_11 K W R _ c.size_of-size.ensures c.if-output-size.true
 
 pub write_import-requires : goal.write_import-requires
 write_import-requires c =
@@ -18,7 +18,7 @@ overflow_cast-result c =
     omega (arith, size_fits K W R, c.size_of-size.ensures)
 
 pub returns : goal.returns
-returns-2 c ρ xs K W R =
-    let size = c.before.before.before.before.before.type_size.ensures in
-    let room = c.before.before.before.before.if1.false in
-    says_5 K W R _ size room (c.before.before.write-import.ensures ρ xs (importable K W R _ size room))
+returns c ρ xs K W R =
+    let size = c.size_of-size.ensures in
+    let room = c.if-output-size.false in
+    says_5 K W R _ size room (c.write_import.ensures ρ xs (importable K W R _ size room))

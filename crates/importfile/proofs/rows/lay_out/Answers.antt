@@ -25,7 +25,7 @@ loop-k-preserved c =
 
 pub returns : goal.returns
 returns c σ L F =
-    let loop = c.before.loop in
-    let n = length c.before.before.before.before.before.args.order.now in
+    let loop = c.loop-k in
+    let n = length c.args.order.now in
     let e : loop.k ≡ n = omega arith in
     rows_all (subst (λ r. Rows 0 recorded r σ loop.t n) e (loop.invariant.2 σ L F))

@@ -29,7 +29,7 @@ write_with-requires c =
     for_as_many I (slice-aggregate-write-with ((goal.at.write_with-requires c).After-keys-1)) (slice-aggregate-write-with-2 ((goal.at.write_with-requires c).After-order-1)) (slice-aggregate-write-with-3 ((goal.at.write_with-requires c).After-spare-1)) (slice-aggregate-write-with-4 ((goal.at.write_with-requires c).After-t-1))
 
 pub returns-then-n-le-FEW : goal.returns-then-n-le-FEW
-returns c ρ xs I = c.before.before.before.before.before.before.write-with.ensures ρ xs (as_many I (slice-aggregate-write-with-2 c.before.before.before.before.before.before.before.before.before.before))
+returns-then-n-le-FEW c ρ xs I = c.write_with.ensures ρ xs (as_many I (slice-aggregate-write-with-2 ((goal.at.returns-then-n-le-FEW c).After-order-1)))
 
 pub slice_bounds-keys-end-2 : goal.slice_bounds-keys-end-2
 slice_bounds-keys-end-2 c = let m = few ((goal.at.slice_bounds-keys-end-2 c).Start) in search rules
@@ -64,4 +64,4 @@ write_with-requires-2 c =
     for_as_many I (slice-aggregate-write-with-5 ((goal.at.write_with-requires-2 c).After-keys-2-1)) (slice-aggregate-write-with-6 ((goal.at.write_with-requires-2 c).After-order-2-1)) (slice-aggregate-write-with-7 ((goal.at.write_with-requires-2 c).After-spare-2-1)) (slice-aggregate-write-with-8 ((goal.at.write_with-requires-2 c).After-t-2-1))
 
 pub returns : goal.returns
-returns-2 c ρ xs I = c.before.before.before.before.before.before.write-with2.ensures ρ xs (as_many I (slice-aggregate-write-with-6 c.before.before.before.before.before.before.before.before.before.before))
+returns c ρ xs I = c.write_with-2.ensures ρ xs (as_many I (slice-aggregate-write-with-6 ((goal.at.returns c).After-order-2-1)))

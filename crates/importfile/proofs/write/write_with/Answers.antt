@@ -30,7 +30,7 @@ write_run-requires c =
 
 pub returns : goal.returns
 returns c ρ xs I =
-    let S = c.before.before.before.before.before.before.before.before.before.before.before.before.before.before.before.before.before.before.before.before.before.before.before.before.before.before.before.before.before.requires.1 in
-    let O = c.before.before.before.before.before.before.before.before.before.before.before.before.before.before.before.before.before.order-rows.ensures in
-    let T = c.before.before.before.before.before.before.before.before.lay-out.ensures _ (none_yet I O S) (to_come I O S) in
-    c.before.before.write_run.ensures _ (tabled I O S (leads_front _ (c.before.before.before.before.before.tasks_of.ensures ρ I.tells)) T)
+    let S = c.requires.1 in
+    let O = c.order_rows.ensures in
+    let T = c.lay_out.ensures _ (none_yet I O S) (to_come I O S) in
+    c.write_run.ensures _ (tabled I O S (leads_front _ (c.tasks_of-tasks.ensures ρ I.tells)) T)

@@ -13,33 +13,32 @@ use Rattle.loadrun.proofs.jobs.jobs_place.Goals as goal
 use Rattle.loadrun.proofs.jobs.jobs_place.Goals.{After-column-in-loop-i, In-loop-i}
 
 -- what is known of a run where its jobs of task i are next
-next : (c : tie.After-column2 invariant-loop decreases-loop)
-    → let a = c.before.before.before.before.before.before.before.before.before.before.args in
-    let l = c.before.before.before.before.before.before.loop in
+next : (c : After-column-in-loop-i)
+    → let a = c.args in
+    let l = c.loop-i in
     (ρ : Run) → Known a.head a.t2 ρ → Lent recorded ρ a.t.now a.head.records
-    → NextTask ρ c.before.column.result.now c.column2.result.now l.i l.at c.before.before.jobs.result
+    → NextTask ρ c.column.result.now c.column-in-loop-i.result.now l.i l.at c.jobs-count.result
 next c ρ K L =
-    let s = c.before.before.before.before in
-    let i = s.before.before.loop.i in
-    let is_task : i < length ρ.tasks = omega (arith, head_task_count ρ K.head, s.if1.true) in
+    let i = c.loop-i.i in
+    let is_task : i < length ρ.tasks = omega (arith, head_task_count ρ K.head, c.loop-i-test.true) in
     record {
-      to_here = s.before.before.loop.invariant.2 ρ K L;
+      to_here = c.loop-i.invariant.2 ρ K L;
       is_task = is_task;
-      counted = c.before.before.jobs.ensures ∙ (λ κ. job_count (K.tasks.each i is_task κ) (head_setting ρ K.head κ).horizon);
-      tasks = rw c.before.column.ensures.0 (column_of_lem L 0 (omega arith) (omega arith));
-      numbers = rw c.column2.ensures.0 (column_of_lem L 1 (omega arith) (omega arith));
+      counted = c.jobs-count.ensures ∙ (λ κ. job_count (K.tasks.each i is_task κ) (head_setting ρ K.head κ).horizon);
+      tasks = rw c.column.ensures.0 (column_of_lem L 0 (omega arith) (omega arith));
+      numbers = rw c.column-in-loop-i.ensures.0 (column_of_lem L 1 (omega arith) (omega arith));
     }
 
-few : (c : tie.After-column2 invariant-loop decreases-loop)
-    → c.before.before.before.before.before.before.loop.at + c.before.before.jobs.result ≤ most_jobs
+few : (c : After-column-in-loop-i)
+    → c.loop-i.at + c.jobs-count.result ≤ most_jobs
 few c =
-    let (ρ, K, L) = c.before.before.before.before.before.before.before.before.before.before.requires in
+    let (ρ, K, L) = c.requires in
     next_fits (next c ρ K L) K.limits
 
 -- the task is one of the list
-within : (c : tie.Then1 invariant-loop decreases-loop) → c.before.before.loop.i < most_tasks
+within : (c : In-loop-i) → c.loop-i.i < most_tasks
 within c =
-    let (ρ, K, L) = c.before.before.before.before.before.before.requires in
+    let (ρ, K, L) = c.requires in
     omega (arith, head_task_count ρ K.head, K.limits.task_total.1)
 
 pub loop-i-init : goal.loop-i-init

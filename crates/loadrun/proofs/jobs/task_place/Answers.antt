@@ -12,15 +12,15 @@ use Rattle.loadrun.proofs.SameJobs.{says_other}
 use Rattle.loadrun.proofs.jobs.task_place.Goals as goal
 use Rattle.loadrun.proofs.jobs.task_place.Goals.{In-loop-j}
 
-number : (c : tie.In-loop invariant-loop decreases-loop) → let at = c.before.before.args.at in at + c.before.loop.j - at ≡ c.before.loop.j
+number : (c : In-loop-j) → let at = c.args.at in at + c.loop-j.j - at ≡ c.loop-j.j
 number c = omega arith
 
 -- place at + j, where it has another job
-found : (c : tie.In-loop invariant-loop decreases-loop)
-    → let a = c.before.before.args in
+found : (c : In-loop-j)
+    → let a = c.args in
     let p = other_job a.task.now a.job.now a.i a.at in
-    p (a.at + c.before.loop.j) ≡ true → some (a.at + c.before.loop.j) ≡ first p a.at a.count
-found c e = first_hit _ _ _ (omega arith) (omega arith) c.before.loop.invariant.1 e
+    p (a.at + c.loop-j.j) ≡ true → some (a.at + c.loop-j.j) ≡ first p a.at a.count
+found c e = first_hit _ _ _ (omega arith) (omega arith) c.loop-j.invariant.1 e
 
 pub loop-j-init : goal.loop-j-init
 loop-j-init c =

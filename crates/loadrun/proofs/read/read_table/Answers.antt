@@ -11,12 +11,12 @@ use Rattle.loadrun.proofs.RecordNumbers.{StandAt, told_stand, read_none, read_on
 use Rattle.loadrun.proofs.read.read_table.Goals as goal
 use Rattle.loadrun.proofs.read.read_table.Goals.{After-read_column-arg-1}
 
-within : (c : tie.After-read-column-arg invariant-loop decreases-loop)
-    → let n = c.before.before.before.before.before.before.before.args.head.records in
-    c.before.before.loop.j * n + n ≤ length c.before.before.loop.t
+within : (c : After-read_column-arg-1)
+    → let n = c.args.head.records in
+    c.loop-j.j * n + n ≤ length c.loop-j.t
 within c =
-    let n = c.before.before.before.before.before.before.before.args.head.records in
-    omega (arith, column_within columns c.before.before.loop.j n (omega arith))
+    let n = c.args.head.records in
+    omega (arith, column_within columns c.loop-j.j n (omega arith))
 
 pub loop-j-init : goal.loop-j-init
 loop-j-init c = (search rules, search rules, λ ρ S. read_none S _ c.requires.0.long)

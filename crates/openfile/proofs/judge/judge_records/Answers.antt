@@ -11,16 +11,16 @@ counted : (c : After-num_at-count) → c.num_at-count.result ≡ num c.args.file
 counted c = c.num_at-count.ensures ∙ ap (num c.args.file.now) c.records_place-at.ensures
 
 pub returns-then-file-at : goal.returns-then-file-at
-returns c τs L = records_uncounted _ _ τs _ (omega arith)
+returns-then-file-at c τs L = records_uncounted _ _ τs _ (omega arith)
 
 pub returns-then-count-gt-MOST : goal.returns-then-count-gt-MOST
-returns-2 c τs L = records_many _ _ τs _ (omega (arith, counted c.before.before.before))
+returns-then-count-gt-MOST c τs L = records_many _ _ τs _ (omega (arith, counted ((goal.at.returns-then-count-gt-MOST c).After-num_at-count)))
 
 pub returns-then-file-size : goal.returns-then-file-size
-returns-3 c τs L = records_cut _ _ τs _ (omega (arith, counted c.before.before.before.before))
+returns-then-file-size c τs L = records_cut _ _ τs _ (omega (arith, counted ((goal.at.returns-then-file-size c).After-num_at-count)))
 
 pub returns-then-size-file : goal.returns-then-size-file
-returns-4 c τs L = records_followed _ _ τs _ (omega (arith, counted c.before.before.before.before.before))
+returns-then-size-file c τs L = records_followed _ _ τs _ (omega (arith, counted ((goal.at.returns-then-size-file c).After-num_at-count)))
 
 pub returns : goal.returns
-returns-5 c τs L = records_fine _ _ τs _ L (omega (arith, counted c.before.before.before.before.before))
+returns c τs L = records_fine _ _ τs _ L (omega (arith, counted ((goal.at.returns c).After-num_at-count)))

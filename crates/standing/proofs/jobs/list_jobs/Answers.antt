@@ -8,9 +8,9 @@ pub loop-i-init : goal.loop-i-init
 loop-i-init c = let (S, (σ, J)) = c.requires in listing_none S J
 
 -- there is room for the jobs of the next task
-fits : (c : tie.After-jobs invariant-loop decreases-loop)
-    → c.before.before.before.loop.at + c.jobs.result ≤ c.before.before.before.before.before.args.m
-fits c = let test = c.before.before in fitting test.before.loop.invariant test.loop-test.true c.jobs.ensures
+fits : (c : After-jobs-count)
+    → c.loop-i.at + c.jobs-count.result ≤ c.args.m
+fits c = fitting c.loop-i.invariant c.loop-i-test.true c.jobs-count.ensures
 
 pub list_task-requires : goal.list_task-requires
 list_task-requires c = let l = fits ((goal.at.list_task-requires c).After-jobs-count) in search rules

@@ -12,4 +12,4 @@ pub loop-j-preserved : goal.loop-j-preserved
 loop-j-preserved c = tasked_on c.loop-j.invariant (search rules) (search rules) c.put_row.ensures
 
 pub returns : goal.returns
-returns c σ O R = let e : c.before.loop.j ≡ c.before.before.before.args.count = omega arith in rw e at (c.before.loop.invariant.rows σ O R)
+returns c σ O R = let e : c.loop-j.j ≡ c.args.count = omega arith in rw e at (c.loop-j.invariant.rows σ O R)

@@ -14,8 +14,8 @@ pub loop-k-init : goal.loop-k-init
 loop-k-init c = let (ρ, H', C, L) = c.requires in opening_none ρ H' C L
 
 -- the task of row k stands in the list
-there : (c : tie.After-slice-known3 invariant-loop decreases-loop) → get_or c.before.before.before.loop.t c.before.before.before.loop.k 0 < most_tasks
-there c = let test = c.before.before in task_there test.before.loop.invariant test.loop-test.true
+there : (c : After-slice_known-in-loop-k-2-1) → get_or c.loop-k.t c.loop-k.k 0 < most_tasks
+there c = task_there c.loop-k.invariant c.loop-k-test.true
 
 pub overflow_cast-task : goal.overflow_cast-task
 overflow_cast-task c = let l = there ((goal.at.overflow_cast-task c).After-slice_known-in-loop-k-2-1) in search rules
@@ -41,5 +41,5 @@ loop-k-preserved c =
 
 pub returns : goal.returns
 returns c ρ H' C L =
-    let e : c.before.loop.k ≡ c.before.before.before.before.args.m = omega arith in
-    rows_all (rw e at (c.before.loop.invariant.rows ρ H' C L))
+    let e : c.loop-k.k ≡ c.args.m = omega arith in
+    rows_all (rw e at (c.loop-k.invariant.rows ρ H' C L))

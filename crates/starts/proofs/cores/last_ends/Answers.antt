@@ -11,8 +11,8 @@ use Rattle.starts.proofs.cores.last_ends.Goals as goal
 use Rattle.starts.proofs.cores.last_ends.Goals.{After-shared_slice_known-in-loop-k-1}
 
 -- the core of job k
-small : (c : tie.After-shared-slice-known3 invariant-loop decreases-loop) → get_or c.before.before.before.before.before.args.core.now c.before.before.loop.k 0 ≤ most_cores
-small c = c.before.before.before.before.before.requires.cores c.before.before.loop.k
+small : (c : After-shared_slice_known-in-loop-k-1) → get_or c.args.core.now c.loop-k.k 0 ≤ most_cores
+small c = c.requires.cores c.loop-k.k
 
 pub loop-k-init : goal.loop-k-init
 loop-k-init c = (search rules, no_ends refl (zeros 17))

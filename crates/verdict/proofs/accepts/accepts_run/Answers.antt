@@ -4,4 +4,4 @@ use borrow.Author.Rules.{rules}
 use Rattle.verdict.proofs.accepts.accepts_run.Goals as goal
 
 pub returns : goal.returns
-returns c ρ T L = c.accepts.ensures ∙ ap (λ f. leb f.answer 2) (c.before.judge_run.ensures ρ T L)
+returns c ρ T L = c.accepts.ensures ∙ ap (λ f. leb f.answer 2) (c.judge_run.ensures ρ T L)

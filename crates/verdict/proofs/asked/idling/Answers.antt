@@ -10,4 +10,4 @@ use Rattle.verdict.proofs.asked.idling.Goals as goal
 pub returns : goal.returns
 returns c ρ L e =
     ap (map three) c.idle_place.ensures
-    ∙ idle_tied (column_is L 3 (omega arith) (omega arith) c.before.before.before.column2.ensures.0) (column_is L 4 (omega arith) (omega arith) c.before.before.column3.ensures.0) (column_is L 5 (omega arith) (omega arith) c.before.column4.ensures.0) e (column_is L 12 (omega arith) (omega arith) c.before.before.before.before.column.ensures.0)
+    ∙ idle_tied (column_is L 3 (omega arith) (omega arith) c.column-2.ensures.0) (column_is L 4 (omega arith) (omega arith) c.column-3.ensures.0) (column_is L 5 (omega arith) (omega arith) c.column-4.ensures.0) e (column_is L 12 (omega arith) (omega arith) c.column.ensures.0)

@@ -9,5 +9,5 @@ use Rattle.verdict.proofs.asked.lasted.Goals as goal
 
 pub returns : goal.returns
 returns c ρ L =
-    ap (map one) c.record_place_lem.ensures
-    ∙ length-tied (column_is L 3 (omega arith) (omega arith) c.before.before.before.before.column.ensures.0) (column_is L 4 (omega arith) (omega arith) c.before.before.before.column2.ensures.0) (column_is L 8 (omega arith) (omega arith) c.before.before.column3.ensures.0) (column_is L 9 (omega arith) (omega arith) c.before.column4.ensures.0)
+    ap (map one) c.record_place.ensures
+    ∙ length-tied (column_is L 3 (omega arith) (omega arith) c.column.ensures.0) (column_is L 4 (omega arith) (omega arith) c.column-2.ensures.0) (column_is L 8 (omega arith) (omega arith) c.column-3.ensures.0) (column_is L 9 (omega arith) (omega arith) c.column-4.ensures.0)

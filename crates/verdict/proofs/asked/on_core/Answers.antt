@@ -9,5 +9,5 @@ use Rattle.verdict.proofs.asked.on_core.Goals as goal
 
 pub returns : goal.returns
 returns c ρ L e =
-    ap (map one) c.record_place_lem.ensures
-    ∙ core_tied e (column_is L 5 (omega arith) (omega arith) c.before.column.ensures.0)
+    ap (map one) c.record_place.ensures
+    ∙ core_tied e (column_is L 5 (omega arith) (omega arith) c.column-core.ensures.0)

@@ -10,4 +10,4 @@ use Rattle.verdict.proofs.asked.out_of_order.Goals as goal
 pub returns : goal.returns
 returns c ρ L =
     ap (map two) c.order_place.ensures
-    ∙ order_tied (column_is L 11 (omega arith) (omega arith) c.before.before.before.column.ensures.0) (column_is L 12 (omega arith) (omega arith) c.before.before.column2.ensures.0) (column_is L 3 (omega arith) (omega arith) c.before.column3.ensures.0)
+    ∙ order_tied (column_is L 11 (omega arith) (omega arith) c.column.ensures.0) (column_is L 12 (omega arith) (omega arith) c.column-2.ensures.0) (column_is L 3 (omega arith) (omega arith) c.column-3.ensures.0)

@@ -9,5 +9,5 @@ use Rattle.verdict.proofs.asked.out_of_turn.Goals as goal
 
 pub returns : goal.returns
 returns c ρ L s =
-    ap (map one) c.record_place_lem.ensures
-    ∙ turn_tied s (column_is L 12 (omega arith) (omega arith) c.before.column2.ensures.0) (column_is L 3 (omega arith) (omega arith) c.before.before.column.ensures.0)
+    ap (map one) c.record_place.ensures
+    ∙ turn_tied s (column_is L 12 (omega arith) (omega arith) c.column.ensures.0) (column_is L 3 (omega arith) (omega arith) c.column-start.ensures.0)

@@ -10,4 +10,4 @@ use Rattle.verdict.proofs.asked.overlapping.Goals as goal
 pub returns : goal.returns
 returns c ρ L =
     ap (map two) c.overlap_place.ensures
-    ∙ overlap_tied (column_is L 3 (omega arith) (omega arith) c.before.before.before.column.ensures.0) (column_is L 4 (omega arith) (omega arith) c.before.before.column2.ensures.0) (column_is L 5 (omega arith) (omega arith) c.before.column3.ensures.0)
+    ∙ overlap_tied (column_is L 3 (omega arith) (omega arith) c.column.ensures.0) (column_is L 4 (omega arith) (omega arith) c.column-2.ensures.0) (column_is L 5 (omega arith) (omega arith) c.column-3.ensures.0)

@@ -9,5 +9,5 @@ use Rattle.verdict.proofs.asked.released.Goals as goal
 
 pub returns : goal.returns
 returns c ρ L =
-    ap (map one) c.record_place_lem.ensures
-    ∙ release_tied (column_is L 6 (omega arith) (omega arith) c.before.before.column2.ensures.0) (column_is L 2 (omega arith) (omega arith) c.before.column3.ensures.0) (column_is L 7 (omega arith) (omega arith) c.before.before.before.column.ensures.0)
+    ap (map one) c.record_place.ensures
+    ∙ release_tied (column_is L 6 (omega arith) (omega arith) c.column.ensures.0) (column_is L 2 (omega arith) (omega arith) c.column-2.ensures.0) (column_is L 7 (omega arith) (omega arith) c.column-latest.ensures.0)

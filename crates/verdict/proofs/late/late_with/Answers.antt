@@ -7,9 +7,9 @@ use Rattle.verdict.proofs.Lateness.{in_time_on, late_on, early_on, early_kept}
 use Rattle.verdict.proofs.late.late_with.Goals as goal
 
 pub returns-then-end-due : goal.returns-then-end-due
-returns c ds ss es d s e L = in_time_on _ _ _ _ L (omega arith)
+returns-then-end-due c ds ss es d s e L = in_time_on _ _ _ _ L (omega arith)
 
 pub returns : goal.returns
-returns-2 c ds ss es d s e L =
-    late_on _ _ _ _ L (omega arith) c.or-this2.ensures
-    (⊎_elim (λ w. early_on _ _ _ _ L (omega arith) (omega arith) (w.2 ∙ w.1.ensures)) (λ w. early_kept _ _ _ _ L (omega arith) w.1) c.before.before.if2.branch)
+returns c ds ss es d s e L =
+    late_on _ _ _ _ L (omega arith) c.or_this.ensures
+    (⊎_elim (λ w. early_on _ _ _ _ L (omega arith) (omega arith) (w.2 ∙ w.1.ensures)) (λ w. early_kept _ _ _ _ L (omega arith) w.1) c.if-start-horizon.branch)

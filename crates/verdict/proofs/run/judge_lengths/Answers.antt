@@ -44,15 +44,15 @@ on_core-no_core-requires c =
     (ρ, (c.fill_times.ensures ρ I).lent, ap (λ σ. σ.cores) e)
 
 pub returns-in-At : goal.returns-in-At
-returns c ρ I e s =
-    let filled = c.before.before.before.before.before.before.before.before.before.fill_times in
-    broken ρ one 4 (omega arith) (c.before.before.before.before.before.lasted.ensures ρ (filled.ensures ρ I).lent) (ap seen c.before.wrong-length.given.1)
+returns-in-At c ρ I e s =
+    let filled = c.fill_times in
+    broken ρ one 4 (omega arith) (c.lasted-wrong_length.ensures ρ (filled.ensures ρ I).lent) (ap seen c.in-At.is)
 
 pub returns-in-At-no_core : goal.returns-in-At-no_core
-returns-2 c ρ I e s =
-    let filled = c.before.before.before.before.before.before.before.before.before.before.before.fill_times in
-    broken ρ one 5 (omega arith) (c.before.before.before.before.before.on_core.ensures ρ (filled.ensures ρ I).lent (ap (λ σ. σ.cores) e)) (ap seen c.before.no_core.given.1)
-    ∙ sym (past_4 c.before.before.before ρ (I, e))
+returns-in-At-no_core c ρ I e s =
+    let filled = c.fill_times in
+    broken ρ one 5 (omega arith) (c.on_core-no_core.ensures ρ (filled.ensures ρ I).lent (ap (λ σ. σ.cores) e)) (ap seen c.in-At-no_core.is)
+    ∙ sym (past_4 ((goal.at.returns-in-At-no_core c).In_default) ρ (I, e))
 
 pub overlapping-requires : goal.overlapping-requires
 overlapping-requires c =
@@ -60,10 +60,10 @@ overlapping-requires c =
     (ρ, (c.fill_times.ensures ρ I).lent)
 
 pub returns-in-At-overlapping : goal.returns-in-At-overlapping
-returns-3 c ρ I e s =
-    let filled = c.before.before.before.before.before.before.before.before.before.before.before.before.before.before.before.fill_times in
-    broken ρ two 6 (omega arith) (c.before.before.before.overlapping.ensures ρ (filled.ensures ρ I).lent) (ap seen_two c.before.a.given.1)
-    ∙ sym (past_5 c.before.before.before.before.before ρ (I, e))
+returns-in-At-overlapping c ρ I e s =
+    let filled = c.fill_times in
+    broken ρ two 6 (omega arith) (c.overlapping.ensures ρ (filled.ensures ρ I).lent) (ap seen_two c.in-At-overlapping.is)
+    ∙ sym (past_5 ((goal.at.returns-in-At-overlapping c).In_default-no_core) ρ (I, e))
 
 pub fill_times-requires-2 : goal.fill_times-requires-2
 fill_times-requires-2 c =
@@ -77,7 +77,7 @@ judge_order-requires c =
     (ρ, (c.fill_times-2.ensures ρ (listed_next I (filled.ensures ρ I))).lent, e)
 
 pub returns : goal.returns
-returns-4 c ρ I e s =
-    let filled = c.before.before.before.before.before.before.before.before.before.before.before.before.before.before.before.before.before.before.before.before.fill_times in
-    c.judge-order.ensures ρ (c.before.before.before.before.fill-times2.ensures ρ (listed_next I (filled.ensures ρ I))).lent e s
-    ∙ sym (past_6 c.before.before.before.before.before.before ρ (I, e))
+returns c ρ I e s =
+    let filled = c.fill_times in
+    c.judge_order.ensures ρ (c.fill_times-2.ensures ρ (listed_next I (filled.ensures ρ I))).lent e s
+    ∙ sym (past_6 ((goal.at.returns c).In_default-overlapping) ρ (I, e))

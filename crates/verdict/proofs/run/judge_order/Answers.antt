@@ -29,26 +29,26 @@ past-9 c ρ ((L, e), s) =
     ∙ passed ρ one 9 (omega arith) (c.out_of_turn.ensures ρ L s) (ap seen c.in_default-out_of_turn.is)
 
 pub returns-in-At : goal.returns-in-At
-returns c ρ L e s = broken ρ two 7 (omega arith) (c.before.before.before.out_of_order.ensures ρ L) (ap seen_two c.before.a.given.1)
+returns-in-At c ρ L e s = broken ρ two 7 (omega arith) (c.out_of_order.ensures ρ L) (ap seen_two c.in-At.is)
 
 pub idling-requires : goal.idling-requires
 idling-requires c = let (ρ, L, e) = c.requires in (ρ, L, ap (λ σ. σ.cores) e)
 
 pub returns-in-At-idling : goal.returns-in-At-idling
-returns-2 c ρ L e s =
-    broken ρ three 8 (omega arith) (c.before.before.before.idling.ensures ρ L (ap (λ σ. σ.cores) e)) (ap seen_three c.before.a2.given.1)
-    ∙ sym (past-7 c.before.before.before.before ρ (L, e))
+returns-in-At-idling c ρ L e s =
+    broken ρ three 8 (omega arith) (c.idling.ensures ρ L (ap (λ σ. σ.cores) e)) (ap seen_three c.in-At-idling.is)
+    ∙ sym (past-7 ((goal.at.returns-in-At-idling c).In_default) ρ (L, e))
 
 pub out_of_turn-requires : goal.out_of_turn-requires
 out_of_turn-requires c = let (ρ, L, e) = c.requires in (ρ, L)
 
 pub returns-in-At-out_of_turn : goal.returns-in-At-out_of_turn
-returns-3 c ρ L e s =
-    broken ρ one 9 (omega arith) (c.before.before.before.out-of-turn.ensures ρ L s) (ap seen c.before.k.given.1)
-    ∙ sym (past-8 c.before.before.before.before ρ (L, e))
+returns-in-At-out_of_turn c ρ L e s =
+    broken ρ one 9 (omega arith) (c.out_of_turn.ensures ρ L s) (ap seen c.in-At-out_of_turn.is)
+    ∙ sym (past-8 ((goal.at.returns-in-At-out_of_turn c).In_default-idling) ρ (L, e))
 
 pub returns : goal.returns
-returns-4 c ρ L e s =
+returns c ρ L e s =
     c.timely.ensures
-    ∙ timely_tied (ap (λ σ. σ.horizon) e) (column_is L 10 (omega arith) (omega arith) c.before.before.before.column.ensures.0) (column_is L 3 (omega arith) (omega arith) c.before.before.column2.ensures.0) (column_is L 4 (omega arith) (omega arith) c.before.column3.ensures.0)
-    ∙ sym (verdict_last ρ) ∙ sym (past-9 c.before.before.before.before ρ ((L, e), s))
+    ∙ timely_tied (ap (λ σ. σ.horizon) e) (column_is L 10 (omega arith) (omega arith) c.column.ensures.0) (column_is L 3 (omega arith) (omega arith) c.column-2.ensures.0) (column_is L 4 (omega arith) (omega arith) c.column-3.ensures.0)
+    ∙ sym (verdict_last ρ) ∙ sym (past-9 ((goal.at.returns c).In_default-out_of_turn) ρ ((L, e), s))

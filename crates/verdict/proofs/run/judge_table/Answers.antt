@@ -14,7 +14,7 @@ use Rattle.openfile.proofs.WholeOrRefused.{tells_setting}
 use Rattle.times.proofs.RowAfterRow.{listed_first, listed_next}
 use Rattle.verdict.proofs.RulesFrom.{Past, verdict_first, broken, held, passed}
 use Rattle.verdict.proofs.run.judge_table.Goals as goal
-use Rattle.verdict.proofs.run.judge_table.Goals.{In_default, In_default-released, In_default-started, Start}
+use Rattle.verdict.proofs.run.judge_table.Goals.{After-jobs_place, In_default, In_default-1, In_default-released, In_default-started, Start}
 
 -- of which run the rules are judged
 abbrev Told : Start → Run → Type 0
@@ -26,9 +26,9 @@ jobs_place-requires c =
     (ρ, tells_known T L, (c.read_table.ensures ρ T).lent)
 
 pub returns-in-At : goal.returns-in-At
-returns c ρ T L =
-    let read = c.before.before.before.before.before.before.before.read_table in
-    broken ρ one 1 (omega arith) (c.before.before.before.jobs_place.ensures ρ (tells_known T L) (read.ensures ρ T).lent) (ap seen c.before.k.given.1)
+returns-in-At c ρ T L =
+    let read = c.read_table in
+    broken ρ one 1 (omega arith) (c.jobs_place.ensures ρ (tells_known T L) (read.ensures ρ T).lent) (ap seen c.in-At.is)
     ∙ sym (verdict_first ρ)
 
 -- rule 1 holds
@@ -63,11 +63,11 @@ past_2 c ρ (T, L) =
     ∙ passed ρ one 2 (omega arith) (c.released.ensures ρ (filled.ensures ρ (listed_first L (jobs rule-1 ρ (T, L)) (read.ensures ρ T))).lent) (ap seen c.in_default-released.is)
 
 pub returns-in-At-released : goal.returns-in-At-released
-returns-2 c ρ T L =
-    let rule-1 = c.before.before.before.before.before.before.before.before.before in
-    let read = c.before.before.before.before.before.before.before.before.before.before.before.before.before.before.before.read_table in
-    let filled = c.before.before.before.before.before.before.before.fill_times in
-    broken ρ one 2 (omega arith) (c.before.before.before.released.ensures ρ (filled.ensures ρ (listed_first L (jobs rule-1 ρ (T, L)) (read.ensures ρ T))).lent) (ap seen c.before.k2.given.1)
+returns-in-At-released c ρ T L =
+    let rule-1 = ((goal.at.returns-in-At-released c).In_default-1) in
+    let read = c.read_table in
+    let filled = c.fill_times in
+    broken ρ one 2 (omega arith) (c.released.ensures ρ (filled.ensures ρ (listed_first L (jobs rule-1 ρ (T, L)) (read.ensures ρ T))).lent) (ap seen c.in-At-released.is)
     ∙ sym (verdict_first ρ ∙ past_1 rule-1 ρ (T, L))
 
 pub started-requires : goal.started-requires
@@ -94,12 +94,12 @@ starts c ρ (T, L) =
     (sym (c.started.ensures ρ (filled.ensures ρ (listed_first L (jobs rule-1 ρ (T, L)) (read.ensures ρ T))).lent) ∙ ap (map one) (ap seen c.in_default-started.is))
 
 pub returns-in-At-started : goal.returns-in-At-started
-returns-3 c ρ T L =
-    let rule-1 = c.before.before.before.before.before.before.before.before.before.before.before.before.before in
-    let read = c.before.before.before.before.before.before.before.before.before.before.before.before.before.before.before.before.before.before.before.read_table in
-    let filled = c.before.before.before.before.before.before.before.before.before.before.before.fill_times in
-    broken ρ one 3 (omega arith) (c.before.before.before.started.ensures ρ (filled.ensures ρ (listed_first L (jobs rule-1 ρ (T, L)) (read.ensures ρ T))).lent) (ap seen c.before.k3.given.1)
-    ∙ sym (verdict_first ρ ∙ past_2 c.before.before.before.before.before ρ (T, L))
+returns-in-At-started c ρ T L =
+    let rule-1 = ((goal.at.returns-in-At-started c).After-jobs_place) in
+    let read = c.read_table in
+    let filled = c.fill_times in
+    broken ρ one 3 (omega arith) (c.started.ensures ρ (filled.ensures ρ (listed_first L (jobs rule-1 ρ (T, L)) (read.ensures ρ T))).lent) (ap seen c.in-At-started.is)
+    ∙ sym (verdict_first ρ ∙ past_2 ((goal.at.returns-in-At-started c).In_default-released) ρ (T, L))
 
 pub judge_lengths-requires : goal.judge_lengths-requires
 judge_lengths-requires c =
@@ -108,7 +108,7 @@ judge_lengths-requires c =
     (ρ, listed_next I (c.fill_times.ensures ρ I), tells_setting T)
 
 pub returns : goal.returns
-returns-4 c ρ T L =
-    let I = listed_first L (jobs c.before.before.before.before.before.before.before.before.before.before.before.before.before.before.before.before ρ (T, L)) (c.before.before.before.before.before.before.before.before.before.before.before.before.before.before.before.before.before.before.before.before.before.before.read_table.ensures ρ T) in
-    c.before.before.judge-lengths.ensures ρ (listed_next I (c.before.before.before.before.before.before.before.before.before.before.before.before.before.before.fill_times.ensures ρ I)) (tells_setting T) (starts c.before.before.before.before ρ (T, L))
-    ∙ sym (verdict_first ρ ∙ past_3 c.before.before.before.before ρ (T, L))
+returns c ρ T L =
+    let I = listed_first L (jobs ((goal.at.returns c).In_default) ρ (T, L)) (c.read_table.ensures ρ T) in
+    c.judge_lengths.ensures ρ (listed_next I (c.fill_times.ensures ρ I)) (tells_setting T) (starts ((goal.at.returns c).In_default-started) ρ (T, L))
+    ∙ sym (verdict_first ρ ∙ past_3 ((goal.at.returns c).In_default-started) ρ (T, L))

@@ -9,4 +9,4 @@ write_chain-requires c =
 
 pub returns : goal.returns
 returns c ρ T O =
-    c.before.before.write_chain.ensures ρ (record { table = (c.before.before.before.before.before.before.before.before.read_table.ensures ρ T).lent; obeys = O })
+    c.write_chain.ensures ρ (record { table = (c.read_table.ensures ρ T).lent; obeys = O })
