@@ -8,7 +8,7 @@ use lib.Seq.{drop-append_seam}
 use borrow.Author.Tests.{lt-ltb, le-ltb}
 use Rattle.model.specs.Answers.{Five, Outcome}
 use Rattle.model.specs.File.{bytes_of}
-use Rattle.model.specs.Calls.{answer_size, numbers, written, front, CheckCall, check_call_if, check_call, Leaves, OutputCall, output_call_if, output_call}
+use Rattle.model.specs.Calls.{answer_size, numbers, written, front, check_call_if, check_call, Leaves, output_call_if, output_call}
 use Rattle.model.specs.Compute.Verdict.{check}
 
 module _ (b a : List ℕ) where

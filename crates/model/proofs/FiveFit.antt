@@ -1,18 +1,18 @@
 -- The five numbers of a check and of a carry are of four bytes, so that a host reads them in the answer slice. Assumes that the file is a
 -- list of bytes.
-use Prim.Native.Nat.{ℕ, zero, suc, ◌+◌, ◌≤◌, ◌<◌, ◌^◌, max}
+use Prim.Native.Nat.{ℕ, ◌+◌, ◌≤◌, ◌<◌, ◌^◌, max}
 use mathlib.Core.Path.{◌≡◌, refl, sym, subst, ◌∙◌, ap}
 use mathlib.Core.Logic.{◌⊎◌, inl, inr}
-use mathlib.Core.List.{List, map}
+use mathlib.Core.List.{List}
 use native.Mathlib.Omega.{arith}
 use native.Mathlib.Decide.{dec_lt}
 use lib.ListN.{length, drop, length-map}
-use Rattle.base.specs.First.{First, Number}
-use Rattle.model.specs.Model.{Run, IsRecord, rec, job_of, existing, WithinLimits, total_jobs}
-use Rattle.model.specs.File.{Bytes, FourBytes, RecordFits, num, task_size, tasks_place, task_at, record_numbers, record_at, record_place, refused, whole, read}
-use Rattle.model.specs.Rules.{Rule, rule1, rule2, rule3, rule4, rule5, rule6, rule7, rule8, rule9, Place, BrokenAt, Fails, OfOne, jobs_recorded}
-use Rattle.model.specs.Answers.{Five, five, number, refusal, Outcome, Listed, Verdict, Answered}
-use Rattle.model.specs.Refusals.{task_count, tasks_told, Names}
+use Rattle.base.specs.First.{Number}
+use Rattle.model.specs.Model.{Run, IsRecord, rec, job_of, existing, WithinLimits}
+use Rattle.model.specs.File.{Bytes, FourBytes, RecordFits, num, task_size, tasks_place, task_at, record_numbers, record_at, record_place, whole, read}
+use Rattle.model.specs.Rules.{Rule, rule1, rule2, rule3, rule4, rule5, rule6, rule7, rule8, rule9, Place, BrokenAt, jobs_recorded}
+use Rattle.model.specs.Answers.{Five, five, refusal, Outcome, Listed, Verdict, Answered}
+use Rattle.model.specs.Refusals.{task_count, Names}
 use Rattle.model.specs.Calls.{answer_size, numbers, written, front, five_in, CheckCall, check_call, OutputCall, output_call}
 use Rattle.model.specs.Compute.Verdict.{check}
 use Rattle.model.proofs.Jobs.{existing_few}

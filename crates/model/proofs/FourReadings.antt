@@ -2,7 +2,7 @@
 -- single statement. Assumes nothing.
 use Prim.Native.Nat.{ℕ}
 use mathlib.Core.Path.{◌≡◌, refl}
-use mathlib.Core.List.{List, [], ◌∷◌, ◌++◌, map}
+use mathlib.Core.List.{List, [], ◌∷◌, map}
 use Rattle.model.specs.Answers.{Five, five}
 use Rattle.model.specs.Compute.Verdict.{check}
 use Rattle.model.proofs.Worked.{file, computed, C5}

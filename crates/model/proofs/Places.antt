@@ -1,7 +1,7 @@
 -- The finder of each rule finds nothing exactly if the rule holds, and else its first place: sound, complete, least. Assumes nothing.
-use Prim.Native.Nat.{ℕ, zero, suc, ◌+◌, ◌-◌, ◌≤◌, ◌<◌, max}
+use Prim.Native.Nat.{ℕ, suc, ◌-◌, ◌<◌, max}
 use mathlib.Core.Path.{◌≡◌, refl, sym, ◌∙◌, ap}
-use mathlib.Core.Logic.{◌⊎◌, inl, inr, ⊎_elim, ◌↔◌}
+use mathlib.Core.Logic.{◌⊎◌, inl, inr, ◌↔◌}
 use mathlib.Core.Bool.{Bool, not}
 use mathlib.Core.List.{List, [], ◌∷◌}
 use mathlib.Core.Option.{Option, none, some, map}
@@ -9,14 +9,12 @@ use native.Mathlib.Omega.{arith}
 use native.Mathlib.Decide.{dec_lt}
 use lib.ListN.{length, get_elem?}
 use Rattle.base.proofs.Arrays.{entry_past}
-use Rattle.base.specs.Find.{first, first_of}
-use Rattle.base.specs.First.{First, Lex}
+use Rattle.base.specs.First.{Lex}
 use Rattle.base.proofs.Test.{Says, says_not, stable}
 use Rattle.base.proofs.Searches.{Finds, Total, total_number, total_lex, finds_none, finds_some, first_finds, first_of_finds, finds_along, finds_same}
 use Rattle.model.specs.Model.{Run, Job, IsRecord, rec, existing, ready}
-use Rattle.model.specs.Rules
-use Rattle.model.specs.Rules.{Rule, rule1, rule2, rule3, rule4, rule5, rule6, rule7, rule8, rule9, Place, OfOne, OfTwo, OfThree, Before, Holds, BrokenAt, FirstPlace, jobs_recorded, Differ, Fails, Overlap, OutOfOrder, Idles, Released, Started, Lasted, IsCore, OnOneCore, Apart, StartsBefore, InOrder, Waits, Busy, InTurn}
-use Rattle.model.specs.Compute.Places.{one, two, three, same_entry, size, differ, released, started, lasted, is_core, overlap, out_of_order, busy, idle_core, idle, in_turn, first_bad, find}
+use Rattle.model.specs.Rules.{Rule, rule1, rule2, rule3, rule4, rule5, rule6, rule7, rule8, rule9, Place, OfOne, OfTwo, OfThree, Before, Holds, BrokenAt, FirstPlace, jobs_recorded, Differ, Fails, Overlap, OutOfOrder, Idles, Released, Started, Lasted, IsCore, StartsBefore, InOrder, Waits, Busy, InTurn}
+use Rattle.model.specs.Compute.Places.{one, two, three, size, differ, released, started, lasted, is_core, overlap, out_of_order, busy, idle_core, idle, in_turn, first_bad, find}
 use Rattle.model.proofs.RuleTests.{says_same_entry, says_released, says_started, says_lasted, says_core, says_apart, says_overlap, says_in_order, says_out_of_order, says_busy, says_in_turn}
 
 -- What is found, as a place.

@@ -9,7 +9,7 @@ use lib.ListN.{length, get_or, take, drop}
 use lib.Seq.{drop-cons, take_all}
 use Rattle.base.proofs.Test.{says_ltb, says_true}
 use Rattle.model.specs.Model.{Run, IsRecord, rec}
-use Rattle.model.specs.File.{Bytes, num, bytes4, bytes_of, setting_numbers, task_numbers, record_numbers, joined, task_at, record_at, setting_at, tasks_in, run_at, bytes, entries, whole, read, part_of, record_part, record_place, tasks_place, records_place, task_size, record_size, size_of}
+use Rattle.model.specs.File.{Bytes, num, bytes4, bytes_of, setting_numbers, task_numbers, record_numbers, joined, task_at, record_at, tasks_in, run_at, bytes, entries, whole, read, part_of, record_part, record_place, tasks_place, records_place, task_size, record_size, size_of}
 use Rattle.model.specs.Refusals.{run_in}
 use Rattle.model.proofs.Reading.{read_records_lem, read_length, read_is, length-entries}
 use Rattle.model.proofs.Refusals.{told_exactly_when}

@@ -1,20 +1,18 @@
 -- What each refusal is given exactly when: `read` refuses with the number of the first fault, and else tells the run. Assumes nothing.
 use Prim.Native.Nat.{ℕ, ◌+◌, ◌≤◌, ◌<◌}
 use mathlib.Core.Path.{◌≡◌, refl, sym, subst, ◌∙◌, ap}
-use mathlib.Core.Logic.{◌↔◌, ◌⊎◌, inl, inr}
+use mathlib.Core.Logic.{◌↔◌, inl, inr}
 use mathlib.Core.Bool.{Bool, true, false}
 use mathlib.Core.List.{List, [], ◌∷◌, ◌++◌}
-use mathlib.Core.Option.{Option, none, some}
+use mathlib.Core.Option.{Option}
 use native.Mathlib.Omega.{arith}
 use lib.ListN.{length}
-use Rattle.base.specs.First.{First}
 use Rattle.base.proofs.Test.{Says, says_leb, says_eqb, decides, stable}
 use Rattle.base.proofs.Searches.{Finds, total_number, first_unique}
 use Rattle.model.specs.Model.{Run, TaskInRange, most_tasks, most_jobs, most_records, total_jobs, task}
-use Rattle.model.specs.File.{Read, refused, whole, num, setting_at, tasks_place, records_place, size_of, gate, gate_task, run_at, read_records, read_tasks, read}
+use Rattle.model.specs.File.{Read, refused, whole, num, setting_at, tasks_place, records_place, size_of, gate, gate_task, read_records, read_tasks, read}
 use Rattle.model.specs.Answers.{Five, refusal, Verdict}
 use Rattle.model.specs.Refusals.{Asked, FirstFault, NoFault, task_count, tasks_told, record_count, run_in, asked_of_file, Names}
-use Rattle.model.specs.Compute.Limits.{bad_task}
 use Rattle.model.specs.Compute.Verdict.{verdict, check_of, check}
 use Rattle.model.proofs.Limits.{says_within, says_setting, says_task, bad_task_finds}
 use Rattle.model.proofs.Reading.{whole≢refused}

@@ -1,7 +1,7 @@
 -- The tests of the rules say what the rules say of one record, of two, and of a core at an instant. Assumes nothing.
-use Prim.Native.Nat.{ℕ, zero, suc, ◌+◌, ◌-◌, ◌≤◌, ◌<◌}
-use mathlib.Core.Path.{◌≡◌, refl, sym, ◌∙◌, ap}
-use mathlib.Core.Bool.{Bool, true, false, not, ◌&&◌, true≢false, false≢true}
+use Prim.Native.Nat.{ℕ, ◌≤◌, ◌<◌}
+use mathlib.Core.Path.{◌≡◌, refl, sym, ap}
+use mathlib.Core.Bool.{true≢false, false≢true}
 use mathlib.Core.Option.{Option, none, some}
 use native.Mathlib.Omega.{arith}
 use lib.Dec.{leb, ltb}
@@ -9,7 +9,7 @@ use mathlib.Core.Bool.{◌||◌}
 use Rattle.base.proofs.Test.{Says, says_leb, says_ltb, says_eqb, says_and, says_or, says_not, says_map}
 use Rattle.base.proofs.Find.{some≢none}
 use Rattle.base.proofs.Searches.{first_finds, found_says}
-use Rattle.model.specs.Model.{Run, Job, IsRecord, rec, task_of, arrival, rank, ready, same_job}
+use Rattle.model.specs.Model.{Run, Job, rec, rank, ready, same_job}
 use Rattle.model.specs.Rules.{Released, Started, Lasted, IsCore, OnOneCore, Apart, StartsBefore, InOrder, Busy, InTurn}
 use Rattle.model.specs.Compute.Places.{same_entry, size, released, started, lasted, is_core, overlap, out_of_order, holds, busy, in_turn}
 

@@ -1,23 +1,21 @@
 -- The five numbers that are computed are those of the table, and no others. Assumes nothing.
-use Prim.Native.Nat.{ℕ, ◌≤◌, ◌<◌}
-use mathlib.Core.Path.{◌≡◌, refl, sym, ◌∙◌, ap}
+use Prim.Native.Nat.{ℕ, ◌<◌}
+use mathlib.Core.Path.{◌≡◌, refl, ◌∙◌}
 use mathlib.Core.Logic.{◌↔◌}
 use mathlib.Core.List.{List}
 use mathlib.Core.Option.{Option, none, some}
 use native.Mathlib.Omega.{arith}
-use lib.ListN.{length}
-use Rattle.base.specs.Find.{first, count}
-use Rattle.base.specs.First.{First, Number}
+use Rattle.base.specs.Find.{first}
 use Rattle.base.proofs.Test.{says_ltb, says_and}
 use Rattle.base.proofs.Count.{count_number, number_count}
 use Rattle.base.proofs.Searches.{Finds, total_number, finds_none, finds_some, first_finds, finds_same}
-use Rattle.model.specs.Model.{Run, IsRecord, rec, due}
+use Rattle.model.specs.Model.{Run, IsRecord}
 use Rattle.model.specs.File.{Read, refused, whole, read}
-use Rattle.model.specs.Rules.{Rule, Place, Obeys}
+use Rattle.model.specs.Rules.{Place, Obeys}
 use Rattle.model.specs.Answers.{Five, number, Late, BeginsBeforeH, LateRecords, Verdict, Answered, rule_broken}
 use Rattle.model.specs.Compute.Places.{size, lowest}
 use Rattle.model.specs.Compute.Verdict.{late, late_early, late_count, timely_of, timely, verdict_of, verdict, check_of, check}
-use Rattle.model.proofs.Lowest.{Lowest, lowest_none, lowest_some, some_lowest}
+use Rattle.model.proofs.Lowest.{lowest_none, lowest_some, some_lowest}
 
 module _ (ρ : Run) where
   abbrev LateRecord : ℕ → Type 0

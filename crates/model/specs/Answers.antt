@@ -1,5 +1,5 @@
 -- Document 01, "What the checker says", and document 02, request 4: answer 6.
-use Rattle.std.specs.Prelude.{ℕ, zero, suc, ◌+◌, ◌≤◌, ◌<◌, ◌≡◌, ◌⊎◌, Bool, true, false, List, [], length}
+use Rattle.std.specs.Prelude.{ℕ, ◌≤◌, ◌<◌, ◌≡◌, ◌⊎◌, Bool, true, false, List, [], length}
 use Rattle.base.specs.First.{First, Number}
 use Rattle.model.specs.declared.answer.Answer.{Answer}
 use Rattle.model.specs.declared.answer.Answer.TheVariants.{InTime, LateBeforeH, LateFromH, RuleBroken, Refused, Written, Chain}

@@ -1,7 +1,6 @@
 -- Document 01, "The report program": it reads at most the first 16,384 bytes of standard input, checks them, and prints one line, the
 -- five numbers in decimal, separated by one space, then a line feed.
-use Rattle.std.specs.Prelude.{ℕ, zero, suc, ◌+◌, ◌/◌, ◌%◌, Bool, true, false, List, [], ◌∷◌, ◌++◌, ltb, take}
-use Rattle.model.specs.Answers.{Five}
+use Rattle.std.specs.Prelude.{ℕ, zero, suc, ◌+◌, ◌/◌, ◌%◌, true, false, List, [], ◌∷◌, ◌++◌, ltb, take}
 use Rattle.model.specs.Calls.{numbers}
 use Rattle.model.specs.Compute.Verdict.{check}
 

@@ -1,6 +1,6 @@
 -- Document 01, "The eight rules", and document 02, request 3, rule 9 and "ready" for "released" in 7 and 8: what each says of a run, and
 -- at which places a run breaks it.
-use Rattle.std.specs.Prelude.{ℕ, zero, suc, ◌+◌, ◌-◌, ◌≤◌, ◌<◌, ◌≡◌, ◌⊎◌, List, [], ◌∷◌, map, length, get_or}
+use Rattle.std.specs.Prelude.{ℕ, ◌+◌, ◌-◌, ◌≤◌, ◌<◌, ◌≡◌, ◌⊎◌, List, [], ◌∷◌, map, get_or}
 use Rattle.std.proofs.Math.ListN.{get_elem?}
 use Rattle.base.specs.First.{First}
 use Rattle.model.specs.Model.{Run, Job, IsRecord, rec, task_of, job_of, arrival, existing, rank, end_before, ready}

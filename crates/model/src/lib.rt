@@ -1,4 +1,6 @@
 // The types of a run. What they mean stands in specs/, a file for each section of the paper.
+#![tactic(auto)]
+
 mod answer;
 mod record;
 mod setting;

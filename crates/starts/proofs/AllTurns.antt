@@ -6,7 +6,7 @@ use mathlib.Core.List.{List}
 use native.Mathlib.Omega.{arith}
 use native.Mathlib.Decide.{dec_lt}
 use lib.ListN.{length, get_or, get_or-eq_default}
-use Rattle.model.specs.Model.{Run, rec, task_of, most_time, most_cores, most_records}
+use Rattle.model.specs.Model.{Run, rec, task_of, most_time, most_cores}
 use Rattle.model.specs.Rules.{Jobs}
 use Rattle.model.specs.Carry.{starts, opening, carried}
 use Rattle.model.specs.Compute.Jumps.{waiting, start_all, carry_by_starts}

@@ -1,4 +1,6 @@
 // A carry from one start to the next: each start is one pass over the jobs and one over the cores, whatever the times.
+#![tactic(auto)]
+
 mod choose;
 mod cores;
 

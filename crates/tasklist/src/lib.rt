@@ -1,4 +1,6 @@
 // Decoded tasks in a list that the caller lends, one entry a task.
+#![tactic(auto)]
+
 ghost use Rattle.std.specs.Prelude.{◌≡◌, List, ◌++◌, ◌-◌, length, replicate};
 ghost use Rattle.model.specs.declared.task.Task.{Task as TaskValue};
 ghost use Rattle.model.specs.Model.{Run, most_tasks, no_task};

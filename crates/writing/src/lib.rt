@@ -1,4 +1,6 @@
 // A run as a run file: the tasks of a list, and the records of a table, written to the front of an output.
+#![tactic(auto)]
+
 ghost use Rattle.std.specs.Prelude.{◌≡◌, [], ◌∷◌, ◌+◌, ◌*◌, ◌≤◌, ◌<◌, length, take};
 ghost use Rattle.model.specs.Calls.{front};
 ghost use Rattle.model.specs.File.{bytes, task_numbers, record_numbers, tasks_place, records_place, task_size, record_size, size_of, longest_file};

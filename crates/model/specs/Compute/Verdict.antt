@@ -1,6 +1,6 @@
 -- The five numbers, computed: `verdict ρ` is the five numbers that `Verdict ρ` says, `check b` those of `Answered b`
 -- (proofs/Verdict.antt).
-use Rattle.std.specs.Prelude.{ℕ, Bool, ◌&&◌, List, ltb, length}
+use Rattle.std.specs.Prelude.{ℕ, Bool, ◌&&◌, List, ltb}
 use Rattle.std.proofs.Math.Option.{Option, none, some}
 use Rattle.base.specs.Find.{first, count}
 use Rattle.model.specs.Model.{Run, rec, due}

@@ -1,13 +1,8 @@
 -- Rule 7: two nested loops find the least pair. Assumes nothing.
 use Prim.Native.Nat.{◌-◌}
-use mathlib.Core.Logic.{⊎_elim}
-use native.Mathlib.Omega.{arith}
-use borrow.Author.Rules.{rules}
 use lib.ListN.{length}
-use Rattle.base.proofs.Test.{says_true, says_false}
 use Rattle.pairs.specs.Pairs.{out_of_order_in}
-use Rattle.pairs.proofs.Pairs.{says_order}
-use Rattle.pairs.proofs.PairSearch.{Row, Rows, row_yet, row_on, row_hit, row_done, rows_yet, rows_done}
+use Rattle.pairs.proofs.PairSearch.{Row, Rows}
 use Rattle.pairs.proofs.order_place.Given as goal
 
 abbrev pub invariant-loop-b : goal.invariant-loop-b

@@ -2,7 +2,6 @@
 use mathlib.Core.Logic.{inl, inr}
 use mathlib.Core.Path.{◌∙◌}
 use native.Mathlib.Omega.{arith}
-use borrow.Author.Rules.{rules}
 use Rattle.starts.proofs.State.{lent_last, lent_next}
 use Rattle.starts.proofs.put_start.Goals as goal
 

@@ -1,6 +1,5 @@
 -- The file's own refusals, 11, or how many tasks are stored. Assumes nothing.
 use mathlib.Core.Path.{sym, ◌∙◌}
-use borrow.Author.Rules.{rules}
 use Rattle.tasklist.proofs.Plan.{plan_refused, plan_whole}
 use Rattle.tasklist.proofs.planned.Goals as goal
 

@@ -1,6 +1,5 @@
 -- As many tasks as `planned` says are stored in a list that is filled with one task. Assumes nothing.
 use mathlib.Core.Path.{◌∙◌}
-use borrow.Author.Rules.{rules}
 use lib.ListN.{replicate, length-replicate}
 use Rattle.model.specs.Model.{most_tasks}
 use Rattle.tasklist.proofs.tasks_over.Goals as goal

@@ -1,10 +1,6 @@
 use Prim.Native.Nat.{◌≤◌, ◌+◌, ◌*◌, ◌-◌}
-use mathlib.Core.Path.{◌≡◌}
-use native.Mathlib.Omega.{arith}
-use borrow.Author.Rules.{rules}
-use lib.ListN.{length, take}
+use lib.ListN.{take}
 use Rattle.writing.specs.WrittenRows.{Wrote}
-use Rattle.writing.proofs.Writing.{numbers_none, numbers_on}
 use Rattle.writing.proofs.write_numbers.Given as goal
 
 abbrev pub invariant-loop-i : goal.invariant-loop-i

@@ -1,10 +1,6 @@
 use Prim.Native.Nat.{◌≤◌, ◌+◌, ◌*◌, ◌-◌}
-use native.Mathlib.Omega.{arith}
-use borrow.Author.Rules.{rules}
-use mathlib.Core.Path.{◌≡◌, refl, ap}
-use Rattle.model.specs.File.{record_size, record_numbers}
+use Rattle.model.specs.File.{record_size}
 use Rattle.writing.specs.WrittenRows.{Wrote, rows, record_row}
-use Rattle.writing.proofs.Writing.{rows_none, rows_more}
 use Rattle.writing.proofs.write_records.Given as goal
 
 abbrev pub invariant-loop-k : goal.invariant-loop-k

@@ -1,9 +1,7 @@
-use Prim.Native.Nat.{◌≤◌, ◌+◌, ◌-◌}
 use native.Mathlib.Omega.{arith}
 use borrow.Author.Rules.{rules}
 use mathlib.Core.Path.{◌≡◌, refl}
-use Rattle.model.specs.File.{tasks_place, records_place}
-use Rattle.writing.specs.WrittenRows.{Wrote, rows, task_row}
+use Rattle.writing.specs.WrittenRows.{task_row}
 use Rattle.writing.proofs.Writing.{rows_none, rows_more}
 use Rattle.writing.proofs.write_tasks.Goals as goal
 

@@ -2,7 +2,6 @@
 use mathlib.Core.Path.{ap}
 use mathlib.Core.Logic.{inl, inr}
 use native.Mathlib.Omega.{arith}
-use borrow.Author.Rules.{rules}
 use Rattle.base.specs.Find.{seen_two}
 use Rattle.starts.proofs.Choosing.{turn_told, no_turn_told, passed, kept, first_waits, sooner}
 use Rattle.starts.proofs.choose.better.Goals as goal

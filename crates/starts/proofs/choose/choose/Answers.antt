@@ -1,11 +1,8 @@
 -- The pass over the jobs. Assumes nothing.
-use Prim.Native.Nat.{◌-◌, ◌≤◌}
 use mathlib.Core.Path.{◌≡◌}
 use native.Mathlib.Omega.{arith}
 use borrow.Author.Rules.{rules}
 use lib.ListN.{length}
-use Rattle.base.specs.Find.{seen_two}
-use Rattle.starts.specs.Choice.{Choice}
 use Rattle.starts.proofs.Choosing.{nobody_yet}
 use Rattle.starts.proofs.choose.choose.Goals as goal
 

@@ -1,7 +1,6 @@
 -- Whose turn it is, by three tests. Assumes nothing.
 use mathlib.Core.Path.{sym}
 use mathlib.Core.Logic.{inl, inr, ⊎_elim}
-use borrow.Author.Rules.{rules}
 use Rattle.base.proofs.Test.{says_true, says_false}
 use Rattle.starts.proofs.Choosing.{says_turn, past_first}
 use Rattle.starts.proofs.choose.has_turn.Goals as goal

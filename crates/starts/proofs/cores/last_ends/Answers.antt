@@ -1,11 +1,10 @@
 -- The last ends, job by job. Assumes nothing.
-use Prim.Native.Nat.{◌-◌, ◌≤◌}
+use Prim.Native.Nat.{◌≤◌}
 use mathlib.Core.Path.{◌≡◌, refl}
 use native.Mathlib.Omega.{arith}
 use borrow.Author.Rules.{rules}
 use lib.ListN.{length, get_or}
 use Rattle.model.specs.Model.{most_cores}
-use Rattle.starts.specs.Cores.{Lasts}
 use Rattle.starts.proofs.Taking.{zeros, no_ends, one_end}
 use Rattle.starts.proofs.cores.last_ends.Goals as goal
 use Rattle.starts.proofs.cores.last_ends.Goals.{After-shared_slice_known-in-loop-k-1}

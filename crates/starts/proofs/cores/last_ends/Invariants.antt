@@ -1,12 +1,7 @@
 -- The last ends, job by job. Assumes nothing.
 use Prim.Native.Nat.{◌-◌, ◌≤◌}
-use mathlib.Core.Path.{◌≡◌, refl}
-use native.Mathlib.Omega.{arith}
-use borrow.Author.Rules.{rules}
-use lib.ListN.{length, get_or}
-use Rattle.model.specs.Model.{most_cores}
+use lib.ListN.{length}
 use Rattle.starts.specs.Cores.{Lasts}
-use Rattle.starts.proofs.Taking.{zeros, no_ends, one_end}
 use Rattle.starts.proofs.cores.last_ends.Given as goal
 
 abbrev pub invariant-loop-k : goal.invariant-loop-k

@@ -1,9 +1,8 @@
 -- The least of the last ends, core by core. Assumes nothing.
-use Prim.Native.Nat.{◌+◌, ◌-◌, ◌≤◌}
+use Prim.Native.Nat.{◌+◌}
 use mathlib.Core.Path.{◌≡◌}
 use native.Mathlib.Omega.{arith}
 use borrow.Author.Rules.{rules}
-use Rattle.starts.specs.Cores.{LeastOf}
 use Rattle.starts.proofs.Taking.{least_one, least_more}
 use Rattle.starts.proofs.cores.least_end.Goals as goal
 

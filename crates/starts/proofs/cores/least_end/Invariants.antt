@@ -1,10 +1,6 @@
 -- The least of the last ends, core by core. Assumes nothing.
 use Prim.Native.Nat.{◌+◌, ◌-◌, ◌≤◌}
-use mathlib.Core.Path.{◌≡◌}
-use native.Mathlib.Omega.{arith}
-use borrow.Author.Rules.{rules}
 use Rattle.starts.specs.Cores.{LeastOf}
-use Rattle.starts.proofs.Taking.{least_one, least_more}
 use Rattle.starts.proofs.cores.least_end.Given as goal
 
 abbrev pub invariant-loop-c : goal.invariant-loop-c

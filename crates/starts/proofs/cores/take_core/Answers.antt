@@ -1,9 +1,8 @@
 -- The pass over the cores. Assumes nothing.
-use Prim.Native.Nat.{◌+◌, ◌-◌, ◌≤◌}
+use Prim.Native.Nat.{◌+◌}
 use mathlib.Core.Path.{◌≡◌, refl}
 use native.Mathlib.Omega.{arith}
 use borrow.Author.Rules.{rules}
-use Rattle.starts.specs.Cores.{Taking}
 use Rattle.starts.proofs.Taking.{none_taken, all_tried}
 use Rattle.starts.proofs.cores.take_core.Goals as goal
 

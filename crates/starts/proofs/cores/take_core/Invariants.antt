@@ -1,10 +1,6 @@
 -- The pass over the cores. Assumes nothing.
 use Prim.Native.Nat.{◌+◌, ◌-◌, ◌≤◌}
-use mathlib.Core.Path.{◌≡◌, refl}
-use native.Mathlib.Omega.{arith}
-use borrow.Author.Rules.{rules}
 use Rattle.starts.specs.Cores.{Taking}
-use Rattle.starts.proofs.Taking.{none_taken, all_tried}
 use Rattle.starts.proofs.cores.take_core.Given as goal
 
 abbrev pub invariant-loop-c : goal.invariant-loop-c
