@@ -1,14 +1,13 @@
 -- What a carry says and writes, and what holds of the file that it writes: for the calls of a host. Assumes nothing.
-use Prim.Native.Nat.{ℕ, ◌≤◌, ◌<◌}
+use Prim.Native.Nat.{ℕ, ◌≤◌}
 use mathlib.Core.Path.{◌≡◌, sym, subst, ◌∙◌, ap}
-use mathlib.Core.Logic.{◌↔◌, ◌⊎◌, inl, inr}
+use mathlib.Core.Logic.{◌↔◌}
 use mathlib.Core.List.{List, []}
 use native.Mathlib.Omega.{arith}
-use native.Mathlib.Decide.{dec_lt}
 use lib.ListN.{length, drop}
 use Rattle.model.specs.Model.{Run, IsRecord, WithinLimits, most_horizon, most_jobs, total_jobs, rec}
 use Rattle.model.specs.Rules.{Obeys}
-use Rattle.model.specs.Answers.{bytes_written, refused_with, Late, BeginsBeforeH, Outcome, written_out}
+use Rattle.model.specs.Answers.{bytes_written, refused_with, Late, BeginsBeforeH, written_out}
 use Rattle.model.specs.File.{Bytes, bytes_of, bytes, record_numbers, whole, read, part_of, record_part}
 use Rattle.model.specs.Refusals.{NoFault, run_in, asked_of_file, asked_of_carry, asked_of_both, Names}
 use Rattle.model.specs.Calls.{answer_size, front, five_in, OutputCall, carry_call}

@@ -6,7 +6,6 @@ use mathlib.Core.Logic.{◌⊎◌, inl, inr, ◌↔◌}
 use mathlib.Core.Option.{Option, none, some}
 use native.Mathlib.Omega.{arith}
 use native.Mathlib.Decide.{dec_le}
-use Rattle.base.specs.Find.{first}
 use Rattle.base.specs.First.{Lex}
 use Rattle.base.proofs.Test.{Says, says_ltb, says_eqb, says_and, says_or, says_not, decides, stable}
 use Rattle.base.proofs.Find.{some≢none}

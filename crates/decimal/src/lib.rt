@@ -1,4 +1,6 @@
 // A number in decimal: its laws, how many digits it has, and reading one out of a text, exactly where the text has one.
+#![tactic(auto)]
+
 ghost use Rattle.std.specs.Prelude.{◌≡◌, ◌<◌, length};
 ghost use Rattle.model.specs.Report.{decimal};
 ghost use Rattle.decimal.specs.NumberFirst.{SaysNumber};

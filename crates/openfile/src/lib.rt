@@ -1,4 +1,6 @@
 // A file opened: it is judged once, from its front, and what it tells besides its records comes back by value.
+#![tactic(auto)]
+
 mod head;
 mod judge;
 mod tally;

@@ -1,4 +1,6 @@
 // Rules 2 to 5 and 9 over columns: the least record that does not do as a rule asks.
+#![tactic(auto)]
+
 ghost use Rattle.std.specs.Prelude.{◌≡◌, not, ◌&&◌, [], ◌∷◌, leb, length};
 ghost use Rattle.base.specs.Columns.{Columns};
 ghost use Rattle.base.specs.Find.{seen, first};

@@ -1,4 +1,6 @@
 // Reading a run file: numbers, entries, a number of each record.
+#![tactic(auto)]
+
 mod column;
 mod entry;
 mod number;

@@ -1,5 +1,5 @@
 -- Two results that a contract permits are the same: of the functions of this crate. Assumes nothing.
-use mathlib.Core.Path.{◌≡◌, sym, ◌∙◌, ap}
+use mathlib.Core.Path.{sym, ◌∙◌}
 use lib.ListN.{get_or}
 use Rattle.base.proofs.Once.{Once, ◌also◌, both}
 use Rattle.wire.proofs.put_u32.Reads as put_u32

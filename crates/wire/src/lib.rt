@@ -1,4 +1,6 @@
 // Numbers and answers as bytes.
+#![tactic(auto)]
+
 ghost use Rattle.std.specs.Prelude.{◌≡◌, [], ◌∷◌, ◌+◌, ◌≤◌, length};
 ghost use Rattle.model.specs.Answers.{five_of};
 ghost use Rattle.model.specs.Calls.{answer_size, numbers, written};

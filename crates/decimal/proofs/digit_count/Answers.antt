@@ -1,10 +1,5 @@
 -- A digit that is counted is one that the rest no longer has. Assumes nothing.
-use Prim.Native.Nat.{◌+◌, ◌≤◌}
-use mathlib.Core.Path.{◌≡◌}
 use native.Mathlib.Omega.{arith}
-use borrow.Author.Rules.{rules}
-use lib.ListN.{length}
-use Rattle.model.specs.Report.{decimal}
 use Rattle.decimal.proofs.Decimal.{length-decimal, length_small, length_more}
 use Rattle.decimal.proofs.digit_count.Goals as goal
 

@@ -1,11 +1,8 @@
 -- From the place on the text has the digits of the number so far, up to the byte that is looked at. Assumes nothing.
-use Prim.Native.Nat.{◌-◌}
 use mathlib.Core.Path.{refl}
 use mathlib.Core.Logic.{inl, inr}
 use native.Mathlib.Omega.{arith}
-use borrow.Author.Rules.{rules}
-use lib.ListN.{length}
-use Rattle.decimal.proofs.DigitByDigit.{Has, has_first, has_more, has_number, bad_front, bad_byte, bad_digit, bad_end}
+use Rattle.decimal.proofs.DigitByDigit.{has_first, has_more, has_number, bad_front, bad_byte, bad_digit, bad_end}
 use Rattle.decimal.proofs.number_at.Goals as goal
 
 pub returns-then-s-at : goal.returns-then-s-at

@@ -1,4 +1,3 @@
-use borrow.Author.Rules.{rules}
 use Rattle.rules.specs.Asked.{obeyed_by}
 use Rattle.rules.proofs.obeyed.Goals as goal
 

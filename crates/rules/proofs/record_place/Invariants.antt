@@ -1,10 +1,7 @@
-use borrow.Author.Rules.{rules}
 use Prim.Native.Nat.{◌-◌, ◌≤◌}
-use mathlib.Core.Path.{sym, ◌∙◌, ap}
 use mathlib.Core.Bool.{not}
-use native.Mathlib.Omega.{arith}
 use lib.ListN.{length}
-use Rattle.base.proofs.Loop.{NoneTo, none_yet, none_on, first_hit, first_miss}
+use Rattle.base.proofs.Loop.{NoneTo}
 use Rattle.rules.specs.Asked.{obeyed_in}
 use Rattle.rules.proofs.record_place.Given as goal
 

@@ -1,5 +1,4 @@
 use mathlib.Core.Path.{sym, ap}
-use borrow.Author.Rules.{rules}
 use Rattle.model.specs.Answers.{five_of}
 use Rattle.model.specs.Calls.{numbers}
 use Rattle.wire.proofs.numbers_of.Goals as goal

@@ -6,8 +6,6 @@ use lib.Bits.{bit_and, and_le_r}
 use lib.ListN.{length-set}
 use lib.Pow.{shr_lt}
 use Rattle.wire.proofs.Put.{put_shifted}
-use Rattle.wire.proofs.put_u32.Reads as reads
-use Rattle.wire.proofs.put_u32.Lts as lts
 use Rattle.wire.proofs.put_u32.Goals as goal
 
 -- what a mask leaves is no greater than the mask

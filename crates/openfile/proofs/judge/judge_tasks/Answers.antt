@@ -1,4 +1,3 @@
-use borrow.Author.Rules.{rules}
 use native.Mathlib.Omega.{arith}
 use Rattle.model.proofs.Reading.{length-entries}
 use Rattle.openfile.proofs.WaysOut.{tasks_uncounted, tasks_miscounted, tasks_cut, tasks_out, jobs_many, tasks_fine}

@@ -1,4 +1,3 @@
-use borrow.Author.Rules.{rules}
 use native.Mathlib.Omega.{arith}
 use Rattle.openfile.proofs.WaysOut.{setting_uncounted, setting_miscounted, setting_cut, setting_out, setting_fine}
 use Rattle.openfile.proofs.judge.open_file.Goals as goal

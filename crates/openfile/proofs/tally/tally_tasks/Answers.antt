@@ -1,7 +1,6 @@
 use borrow.Author.Rules.{rules}
-use Prim.Native.Nat.{◌≤◌, ◌-◌}
 use native.Mathlib.Omega.{arith}
-use Rattle.openfile.proofs.Tallied.{TalliedTo, tally_yet, tally_on, tally_out, tally_all}
+use Rattle.openfile.proofs.Tallied.{tally_yet, tally_on, tally_out, tally_all}
 use Rattle.openfile.proofs.tally.tally_tasks.Goals as goal
 
 pub returns-then-not-in_range : goal.returns-then-not-in_range

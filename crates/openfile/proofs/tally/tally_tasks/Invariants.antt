@@ -1,7 +1,5 @@
-use borrow.Author.Rules.{rules}
 use Prim.Native.Nat.{◌≤◌, ◌-◌}
-use native.Mathlib.Omega.{arith}
-use Rattle.openfile.proofs.Tallied.{TalliedTo, tally_yet, tally_on, tally_out, tally_all}
+use Rattle.openfile.proofs.Tallied.{TalliedTo}
 use Rattle.openfile.proofs.tally.tally_tasks.Given as goal
 
 abbrev pub invariant-loop-i : goal.invariant-loop-i

@@ -1,11 +1,7 @@
 use borrow.Author.Rules.{rules}
-use Prim.Native.Nat.{◌+◌, ◌*◌, ◌-◌, ◌≤◌}
 use mathlib.Core.Path.{◌≡◌}
 use native.Mathlib.Omega.{arith}
-use lib.ListN.{length}
-use Rattle.base.specs.Fill.{Fills}
 use Rattle.base.proofs.Fill.{fills_none, fills_on}
-use Rattle.model.specs.File.{num, record_size}
 use Rattle.runfile.proofs.column.read_column.Goals as goal
 
 pub loop-k-init : goal.loop-k-init

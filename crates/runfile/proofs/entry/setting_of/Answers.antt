@@ -1,4 +1,3 @@
-use borrow.Author.Rules.{rules}
 use Rattle.runfile.proofs.entry.setting_of.Goals as goal
 
 pub returns : goal.returns
