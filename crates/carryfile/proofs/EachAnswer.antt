@@ -2,7 +2,7 @@
 -- Assumes nothing.
 use Prim.Native.Nat.{ℕ}
 use mathlib.Core.Path.{◌≡◌, refl, sym, ◌∙◌, ap}
-use mathlib.Core.Bool.{Bool, true, false, not, ◌&&◌, true≢false}
+use mathlib.Core.Bool.{Bool, true, false, not, ◌&&◌}
 use mathlib.Core.List.{List}
 use native.Mathlib.Omega.{arith}
 use borrow.Author.Tests.{not-true, not-false}
@@ -12,7 +12,7 @@ use Rattle.base.proofs.Test.{says_leb, says_and, says_true}
 use Rattle.model.proofs.Gates.{gate_opens, gate_closes, leaves, leaves_refused}
 use Rattle.carrytheory.proofs.Demand3.{carried_size}
 use Rattle.model.specs.declared.task.Task.{Task}
-use Rattle.model.specs.Answers.{refusal, bytes_written, refused_with, Outcome, gate_outcome, written_out}
+use Rattle.model.specs.Answers.{refusal, bytes_written, Outcome, gate_outcome, written_out}
 use Rattle.model.specs.Calls.{front}
 use Rattle.model.specs.Carry.{carried, carry_run, carry_of, carry}
 use Rattle.model.specs.Compute.Verdict.{verdict}

@@ -2,7 +2,6 @@
 use Prim.Native.Nat.{ℕ}
 use mathlib.Core.Path.{◌≡◌, sym, ◌∙◌, ap}
 use mathlib.Core.List.{List}
-use mathlib.Core.Option.{none}
 use Rattle.base.proofs.Find.{some≢none}
 use Rattle.model.specs.Compute.Limits.{bad_task}
 use Rattle.model.specs.File.{tasks_in}

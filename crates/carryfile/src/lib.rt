@@ -1,4 +1,6 @@
 // Carrying a file to a longer horizon.
+#![tactic(auto)]
+
 mod file;
 
 pub use file::carry_file;

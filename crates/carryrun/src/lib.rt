@@ -1,4 +1,6 @@
 // The carry of the run of a file, written as a file.
+#![tactic(auto)]
+
 ghost use Rattle.std.specs.Prelude.{◌≡◌, length};
 ghost use Rattle.model.specs.Calls.{front};
 ghost use Rattle.model.specs.Carry.{carried};

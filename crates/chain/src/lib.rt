@@ -1,4 +1,6 @@
 // The chain of causes, over the table of a run: why a record began, and whose end it waited for.
+#![tactic(auto)]
+
 mod cause;
 mod write;
 

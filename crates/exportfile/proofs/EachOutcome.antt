@@ -9,7 +9,7 @@ use lib.Dec.{leb}
 use lib.ListN.{length}
 use Rattle.base.proofs.Test.{says_leb}
 use Rattle.model.proofs.Gates.{gate_opens, gate_closes, leaves, leaves_refused}
-use Rattle.model.specs.Answers.{Five, refusal, bytes_written, refused_with, Outcome, gate_outcome, written_out}
+use Rattle.model.specs.Answers.{refusal, bytes_written, Outcome, gate_outcome, written_out}
 use Rattle.model.specs.Calls.{front}
 use Rattle.model.specs.File.{read, refused}
 use Rattle.model.specs.Model.{Run}

@@ -1,5 +1,7 @@
 // Rule 8 over columns. For each record it is found once until when its core idles after its end, and each wait is then one pass over
 // these: quadratic in the records, whatever the times.
+#![tactic(auto)]
+
 mod instant;
 mod running;
 mod until;

@@ -1,13 +1,13 @@
 -- What an import is, one law for each answer: the file's own refusals, those of the lines, 11, and the file that is written. Assumes nothing.
 use Prim.Native.Nat.{ℕ, ◌+◌, ◌*◌, ◌≤◌, ◌<◌}
 use mathlib.Core.Path.{◌≡◌, refl, sym, ◌∙◌, ap}
-use mathlib.Core.List.{List, ◌++◌}
+use mathlib.Core.List.{List}
 use mathlib.Core.Option.{Option, none, some}
 use native.Mathlib.Omega.{arith}
 use lib.ListN.{length, get_or, drop, length-append}
 use Rattle.base.proofs.Test.{says_leb, says_true, says_false}
 use Rattle.model.specs.declared.record.Record.{Record}
-use Rattle.model.specs.Model.{Run, most_records, no_record}
+use Rattle.model.specs.Model.{Run, no_record}
 use Rattle.model.specs.File.{read, refused, bytes, size_of, joined, record_numbers}
 use Rattle.model.specs.Answers.{Five, refusal, bytes_written, written_out}
 use Rattle.model.specs.Calls.{front}
@@ -18,11 +18,10 @@ use Rattle.openfile.specs.declared.head.Head.{Head}
 use Rattle.openfile.specs.Head.{Tells}
 use Rattle.openfile.proofs.WholeOrRefused.{tells_task_count, tells_few}
 use Rattle.sorting.proofs.Entries.{same_length}
-use Rattle.exchange.specs.TextTable.{Taken, TableRead, all_taken, table_read}
+use Rattle.exchange.specs.TextTable.{Taken, all_taken, table_read}
 use Rattle.exchange.specs.Import.{imported, import_if, import_of, import_table}
 use Rattle.exchange.proofs.ImportedRun.{imported_same}
 use Rattle.exchange.proofs.TakenOrRefused.{taken_exactly}
-use Rattle.readlines.specs.declared.scan.Scanned.{Scanned}
 use Rattle.readlines.specs.declared.scan.Scanned.TheVariants.{Refused, Records}
 use Rattle.readlines.specs.Scan.{width, scanned_by, scanned_of}
 use Rattle.importfile.specs.Importable.{Rowed, Importable}

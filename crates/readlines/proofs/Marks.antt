@@ -13,9 +13,8 @@ use Rattle.base.proofs.Find.{here_or_on}
 use Rattle.base.proofs.Test.{says_false}
 use Rattle.model.specs.declared.record.Record.{Record}
 use Rattle.model.specs.Model.{Job, job_of, no_record, same_job}
-use Rattle.exchange.specs.TextTable.{Given}
 use Rattle.exchange.proofs.TakenOrRefused.{says_given}
-use Rattle.readlines.specs.Scan.{job_in, slots, slot_of}
+use Rattle.readlines.specs.Scan.{job_in, slot_of}
 use Rattle.readlines.proofs.SideBySide.{Laid, found_given}
 
 pub record Marked (xs : List Record) (marks : List ℕ) : Type 0 where

@@ -1,4 +1,6 @@
 // A run as one lent table: where its columns stand, one of them as a part of it, and a row put into it.
+#![tactic(auto)]
+
 ghost use Rattle.std.specs.Prelude.{◌≡◌, ◌+◌, ◌*◌, ◌≤◌, ◌<◌, length, take};
 ghost use Rattle.table.specs.Table.{columns, Sized, column_of, PutRow, LiesAt};
 

@@ -1,4 +1,6 @@
 // Text written into a slice: bytes, numbers, and the five numbers of an answer as a line.
+#![tactic(auto)]
+
 ghost use Rattle.std.specs.Prelude.{◌≡◌, [], ◌∷◌, ◌++◌, ◌+◌, ◌≤◌, ◌<◌, length};
 ghost use Rattle.model.specs.Answers.{five_of};
 ghost use Rattle.model.specs.Calls.{numbers};

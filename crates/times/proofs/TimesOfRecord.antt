@@ -5,7 +5,7 @@ use mathlib.Core.List.{List, [], ◌∷◌}
 use native.Mathlib.Omega.{arith}
 use lib.ListN.{length, get_or, take, drop}
 use Rattle.model.specs.declared.task.Task.{Task}
-use Rattle.model.specs.Model.{Run, WithinLimits, TaskInRange, IsRecord, rec, task_of, task, arrival, deadline, due, rank, ready}
+use Rattle.model.specs.Model.{Run, WithinLimits, TaskInRange, IsRecord, rec, task_of, arrival, deadline, due, rank, ready}
 use Rattle.model.specs.Rules.{Jobs}
 use Rattle.model.proofs.Jobs.{Good}
 use Rattle.carrytheory.proofs.Recorded.{record_exists}

@@ -1,4 +1,6 @@
 // The times of each record, from the tasks of the file: they stand in a list that is lent, and the rules then run over columns alone.
+#![tactic(auto)]
+
 ghost use Rattle.std.specs.Prelude.{◌≡◌, ◌+◌, ◌*◌, ◌<◌};
 ghost use Rattle.model.specs.Model.{Run, task_of, ready};
 ghost use Rattle.model.specs.Rules.{Jobs};

@@ -1,4 +1,6 @@
 // What is said of the run of a file: the rules in order, and then its late records.
+#![tactic(auto)]
+
 mod accepts;
 mod asked;
 mod late;

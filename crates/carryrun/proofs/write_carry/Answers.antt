@@ -4,14 +4,13 @@ use borrow.Author.Rules.{rules}
 use lib.Seq.{length-take-le}
 use Rattle.carryrun.proofs.Handed.{few_jobs}
 use Rattle.carryrun.proofs.write_carry.Goals as goal
-use Rattle.carryrun.proofs.write_carry.Goals.{After-few-1, After-table-1}
 
 pub slice_bounds-write_table-end : goal.slice_bounds-write_table-end
 slice_bounds-write_table-end c = sym (length-take-le _ _ (search rules))
 
 pub write_table-requires : goal.write_table-requires
 write_table-requires c =
-    (record { long = sym (slice-aggregate-write-table ((goal.at.write_table-requires c).After-few-1)); few = search rules }, c.requires)
+    (record { long = length-take-le _ _ (search rules); few = search rules }, c.requires)
 
 pub slice_bounds-table-end : goal.slice_bounds-table-end
 slice_bounds-table-end c = let few = few_jobs c.requires.1 in search rules
@@ -22,4 +21,5 @@ slice_bounds-write_table-end-2 c = let few = few_jobs c.requires.1 in sym (lengt
 pub write_table-requires-2 : goal.write_table-requires-2
 write_table-requires-2 c =
     let p = c.requires in
-    (record { long = sym (slice-aggregate-write-table-2 ((goal.at.write_table-requires-2 c).After-table-1)); few = few_jobs p.1 }, p)
+    let few = few_jobs p.1 in
+    (record { long = length-take-le _ _ (search rules); few = few }, p)

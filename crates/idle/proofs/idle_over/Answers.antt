@@ -1,10 +1,9 @@
 -- Rule 8: each record's wait is looked at, the first record first. Assumes nothing.
-use Prim.Native.Nat.{◌-◌, ◌≤◌}
 use mathlib.Core.Path.{sym, ◌∙◌, ap}
 use native.Mathlib.Omega.{arith}
 use borrow.Author.Rules.{rules}
 use Rattle.base.specs.Find.{seen_two}
-use Rattle.base.proofs.Loop.{NothingTo, nothing_yet, nothing_on, first_of_hit, first_of_miss}
+use Rattle.base.proofs.Loop.{nothing_yet, nothing_on, first_of_hit, first_of_miss}
 use Rattle.idle.specs.Idle.{idle_in}
 use Rattle.idle.proofs.idle_over.Goals as goal
 
@@ -28,3 +27,6 @@ loop-a-preserved c = (search rules, nothing_on _ (search rules) (sym c.first_idl
 
 pub loop-a-init : goal.loop-a-init
 loop-a-init c = search (rules, nothing_yet)
+
+pub returns : goal.returns
+returns c = first_of_miss _ _ _ (omega arith) c.loop-a.invariant.1

@@ -1,10 +1,6 @@
 -- Rule 8: each record's wait is looked at, the first record first. Assumes nothing.
 use Prim.Native.Nat.{◌-◌, ◌≤◌}
-use mathlib.Core.Path.{sym, ◌∙◌, ap}
-use native.Mathlib.Omega.{arith}
-use borrow.Author.Rules.{rules}
-use Rattle.base.specs.Find.{seen_two}
-use Rattle.base.proofs.Loop.{NothingTo, nothing_yet, nothing_on, first_of_hit, first_of_miss}
+use Rattle.base.proofs.Loop.{NothingTo}
 use Rattle.idle.specs.Idle.{idle_in}
 use Rattle.idle.proofs.idle_over.Given as goal
 

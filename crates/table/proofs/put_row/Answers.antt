@@ -1,9 +1,9 @@
 use borrow.Author.Rules.{rules}
-use Prim.Native.Nat.{◌+◌, ◌*◌, ◌-◌, ◌≤◌}
+use Prim.Native.Nat.{◌+◌, ◌*◌, ◌≤◌}
 use mathlib.Core.Path.{◌≡◌}
 use native.Mathlib.Omega.{arith}
-use lib.ListN.{length, take}
-use Rattle.table.specs.Table.{columns, PutRow}
+use lib.ListN.{length}
+use Rattle.table.specs.Table.{columns}
 use Rattle.table.proofs.ColumnsApart.{column_within}
 use Rattle.table.proofs.OneRow.{put_none, put_on}
 use Rattle.table.proofs.put_row.Goals as goal
@@ -34,9 +34,7 @@ bounds-t-j c = omega (arith, within ((goal.at.bounds-t-j c).In-loop-i))
 pub loop-i-preserved : goal.loop-i-preserved
 loop-i-preserved c =
     let w = within ((goal.at.loop-i-preserved c).In-loop-i) in
-    let a = c.args in
-    let seven : length a.t5 ≡ 7 = c.well-formed.1.1.1.1.0.1.0.1 in
-    let p = put_on a.t5 c.loop-i.i c.loop-i.invariant.2 (omega arith) (omega arith) (omega arith) in
+    let p = put_on c.args.numbers c.loop-i.i c.loop-i.invariant.2 (omega arith) (omega arith) (omega arith) in
     (omega arith, p.long, p)
 
 pub returns : goal.returns

@@ -1,11 +1,7 @@
-use borrow.Author.Rules.{rules}
-use Prim.Native.Nat.{◌+◌, ◌*◌, ◌-◌, ◌≤◌}
+use Prim.Native.Nat.{◌-◌, ◌≤◌}
 use mathlib.Core.Path.{◌≡◌}
-use native.Mathlib.Omega.{arith}
 use lib.ListN.{length, take}
-use Rattle.table.specs.Table.{columns, PutRow}
-use Rattle.table.proofs.ColumnsApart.{column_within}
-use Rattle.table.proofs.OneRow.{put_none, put_on}
+use Rattle.table.specs.Table.{PutRow}
 use Rattle.table.proofs.put_row.Given as goal
 
 abbrev pub invariant-loop-i : goal.invariant-loop-i

@@ -1,5 +1,4 @@
 use mathlib.Core.Path.{◌∙◌, ap}
-use borrow.Author.Rules.{rules}
 use Rattle.model.specs.Report.{line}
 use Rattle.text.specs.Lined.{lined}
 use Rattle.text.proofs.Lined.{wrote_lined, lined_within}

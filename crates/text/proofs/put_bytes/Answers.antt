@@ -1,10 +1,8 @@
 -- The bytes are written one by one. Assumes nothing.
-use Prim.Native.Nat.{◌+◌, ◌-◌, ◌≤◌}
-use borrow.Author.Rules.{rules}
+use Prim.Native.Nat.{◌≤◌}
 use native.Mathlib.Omega.{arith}
-use lib.ListN.{length, take}
+use lib.ListN.{length}
 use lib.Seq.{take_all}
-use Rattle.text.specs.Paste.{Wrote}
 use Rattle.text.proofs.Paste.{wrote_none, wrote_on}
 use Rattle.text.proofs.put_bytes.Goals as goal
 

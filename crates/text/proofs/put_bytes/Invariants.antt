@@ -1,11 +1,7 @@
 -- The bytes are written one by one. Assumes nothing.
 use Prim.Native.Nat.{◌+◌, ◌-◌, ◌≤◌}
-use borrow.Author.Rules.{rules}
-use native.Mathlib.Omega.{arith}
 use lib.ListN.{length, take}
-use lib.Seq.{take_all}
 use Rattle.text.specs.Paste.{Wrote}
-use Rattle.text.proofs.Paste.{wrote_none, wrote_on}
 use Rattle.text.proofs.put_bytes.Given as goal
 
 abbrev pub invariant-loop-k : goal.invariant-loop-k

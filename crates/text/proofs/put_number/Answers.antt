@@ -1,5 +1,4 @@
 -- The digits, and the byte after them. Assumes nothing.
-use borrow.Author.Rules.{rules}
 use native.Mathlib.Omega.{arith}
 use Rattle.text.proofs.Paste.{wrote_more}
 use Rattle.text.proofs.put_number.Goals as goal

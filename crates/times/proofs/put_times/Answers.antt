@@ -3,11 +3,9 @@ use mathlib.Core.Path.{refl, ap}
 use mathlib.Core.List.{[], ◌∷◌}
 use native.Mathlib.Omega.{arith}
 use Prim.Native.Nat.{◌+◌}
-use borrow.Author.Rules.{rules}
 use Rattle.times.specs.declared.Stage.TheVariants.{Release, Length, Order}
 use Rattle.times.proofs.TimesOfRecord.{filled, L, times_fit, times_on}
 use Rattle.times.proofs.put_times.Goals as goal
-use Rattle.times.proofs.put_times.Goals.{Start}
 
 pub overflow_cast-earliest : goal.overflow_cast-earliest
 overflow_cast-earliest c =
@@ -41,7 +39,6 @@ returns-in-Length c = λ σ J R e.
 pub returns-in-Order : goal.returns-in-Order
 unfolding filled
 returns-in-Order c = λ σ J R e.
-    let s = ((goal.at.returns-in-Order c).Start) in
     let due = c.deadline-due.ensures in
-    let ready = c.ready_at-ready.ensures σ J (L s.args.stage J R e s.requires.0) in
-    times_on s.args.stage J R e s.requires.0 Order c.in-Order.is (λ κ. due κ ∷ due κ ∷ ready κ ∷ []) c.put_row-in-Order.ensures
+    let ready = c.ready_at-ready.ensures σ J (L c.args.stage J R e c.requires.0) in
+    times_on c.args.stage J R e c.requires.0 Order c.in-Order.is (λ κ. due κ ∷ due κ ∷ ready κ ∷ []) c.put_row-in-Order.ensures

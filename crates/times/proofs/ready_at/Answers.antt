@@ -1,6 +1,5 @@
 -- The later of the release and the end of the record before, unless it is its task's first job. Assumes nothing.
 use mathlib.Core.Path.{◌∙◌}
-use borrow.Author.Rules.{rules}
 use Rattle.times.proofs.TimesOfRecord.{ready_first, ready_later}
 use Rattle.times.proofs.ready_at.Goals as goal
 

@@ -1,7 +1,6 @@
 use mathlib.Core.Path.{sym, ◌∙◌}
 use Rattle.openfile.proofs.WholeOrRefused.{whole_tells, refused_tells}
 use Rattle.carryfile.proofs.EachAnswer.{says_refused}
-use borrow.Author.Rules.{rules}
 use Rattle.carryfile.proofs.file.carry_file.Goals as goal
 
 pub carry_whole-requires : goal.carry_whole-requires

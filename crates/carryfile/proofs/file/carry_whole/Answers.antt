@@ -3,7 +3,6 @@ use Rattle.model.specs.Model.{Run}
 use Rattle.openfile.specs.Head.{Tells}
 use Rattle.carrytheory.specs.Allowed.{Allowed}
 use Rattle.carryfile.proofs.EachAnswer.{allowed, counted, says_9, says_6}
-use borrow.Author.Rules.{rules}
 use Rattle.carryfile.proofs.file.carry_whole.Goals as goal
 use Rattle.carryfile.proofs.file.carry_whole.Goals.{Else-not-few}
 

@@ -1,7 +1,6 @@
 use native.Mathlib.Omega.{arith}
 use Rattle.openfile.proofs.WholeOrRefused.{tells_size}
 use Rattle.carryfile.proofs.JobsTold.{none_out, jobs_told}
-use borrow.Author.Rules.{rules}
 use Rattle.carryfile.proofs.file.jobs_by.Goals as goal
 
 pub tally_tasks-requires : goal.tally_tasks-requires

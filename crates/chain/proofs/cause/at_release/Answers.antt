@@ -1,4 +1,3 @@
-use borrow.Author.Rules.{rules}
 use Rattle.chain.proofs.FoundInTable.{release_tied}
 use Rattle.chain.proofs.cause.at_release.Goals as goal
 

@@ -1,8 +1,7 @@
 -- The job of the record before if that is of its task and ended at this start, else what is found on its core. Assumes nothing.
-use mathlib.Core.Path.{◌≡◌, refl, sym, ◌∙◌}
+use mathlib.Core.Path.{refl, sym, ◌∙◌}
 use native.Mathlib.Omega.{arith}
 use Rattle.chain.proofs.FoundInTable.{own_before, own_is, core_is, core_tied}
-use borrow.Author.Rules.{rules}
 use Rattle.chain.proofs.cause.cause.Goals as goal
 
 pub own_ended-own-requires : goal.own_ended-own-requires

@@ -1,5 +1,4 @@
 -- Its task's first job has none before it; else the record before is of its task. Assumes nothing.
-use borrow.Author.Rules.{rules}
 use Rattle.chain.proofs.FoundInTable.{own_first, own_later}
 use Rattle.chain.proofs.cause.own_ended.Goals as goal
 

@@ -1,6 +1,5 @@
 use native.Mathlib.Omega.{arith}
 use mathlib.Core.Path.{◌∙◌}
-use borrow.Author.Rules.{rules}
 use Rattle.chain.proofs.PutChain.{put_in, put_not}
 use Rattle.chain.proofs.write.put_if.Goals as goal
 

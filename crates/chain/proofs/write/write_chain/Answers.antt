@@ -1,16 +1,14 @@
 -- The chain is counted, and then it is written or does not fit. Assumes nothing.
 use Prim.Native.Nat.{◌+◌, ◌*◌}
-use mathlib.Core.Path.{◌≡◌}
 use native.Mathlib.Omega.{arith}
 use Rattle.chain.proofs.ChainFits.{its_chain, count_few, says_11, says_6}
-use borrow.Author.Rules.{rules}
 use Rattle.chain.proofs.write.write_chain.Goals as goal
 
 pub why_began-count-requires : goal.why_began-count-requires
 why_began-count-requires c =
     let a = c.args in
     let (l, (ρ, T)) = c.requires in
-    (l, omega (arith, c.shared_slice_known-1.given (3 * a.n + a.k)), (ρ, T))
+    (l, omega (arith, c.type_inv.t (3 * a.n + a.k)), (ρ, T))
 
 pub overflow_mul-count : goal.overflow_mul-count
 overflow_mul-count c =
@@ -27,7 +25,7 @@ pub why_began-requires : goal.why_began-requires
 why_began-requires c =
     let a = c.args in
     let (l, (ρ, T)) = c.requires in
-    (l, omega (arith, c.shared_slice_known-1.given (3 * a.n + a.k)), (ρ, T))
+    (l, omega (arith, c.type_inv.t (3 * a.n + a.k)), (ρ, T))
 
 pub overflow_cast-result : goal.overflow_cast-result
 overflow_cast-result c =

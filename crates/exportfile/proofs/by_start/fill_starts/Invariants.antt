@@ -1,11 +1,6 @@
 -- Filled up to here. Assumes nothing.
-use Prim.Native.Nat.{◌+◌, ◌-◌, ◌≤◌}
-use mathlib.Core.Path.{◌≡◌, ap}
-use native.Mathlib.Omega.{arith}
-use lib.ListN.{length}
-use borrow.Author.Rules.{rules}
+use Prim.Native.Nat.{◌-◌, ◌≤◌}
 use Rattle.base.specs.Fill.{Fills}
-use Rattle.base.proofs.Fill.{fills_none, fills_on}
 use Rattle.exportfile.specs.LinesOf.{start_of}
 use Rattle.exportfile.proofs.by_start.fill_starts.Given as goal
 

@@ -1,6 +1,5 @@
 -- The file's own refusals, or what is said of a file that is whole. Assumes nothing.
 use mathlib.Core.Path.{sym, ◌∙◌}
-use borrow.Author.Rules.{rules}
 use Rattle.openfile.proofs.WholeOrRefused.{whole_tells, refused_tells}
 use Rattle.exportfile.proofs.EachOutcome.{says_refused}
 use Rattle.exportfile.proofs.file.export_file.Goals as goal

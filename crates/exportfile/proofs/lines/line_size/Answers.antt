@@ -1,6 +1,5 @@
 -- Each sum is at most the line, and a line is short. Assumes nothing.
 use native.Mathlib.Omega.{arith}
-use borrow.Author.Rules.{rules}
 use Rattle.exchange.proofs.LineLaws.{length-line}
 use Rattle.exportfile.proofs.LineBytes.{line_numbers}
 use Rattle.exportfile.proofs.lines.line_size.Goals as goal

@@ -1,12 +1,9 @@
 -- As long as the lines of the records so far. Assumes nothing.
-use Prim.Native.Nat.{◌+◌, ◌-◌, ◌*◌, ◌≤◌}
 use mathlib.Core.Path.{◌≡◌, ap}
 use mathlib.Core.List.{[]}
 use native.Mathlib.Omega.{arith}
 use lib.ListN.{length}
-use borrow.Author.Rules.{rules}
-use Rattle.exchange.specs.RecordLine.{record_line, table_of}
-use Rattle.exportfile.specs.LinesOf.{records_at}
+use Rattle.exchange.specs.RecordLine.{record_line}
 use Rattle.exportfile.proofs.LineBytes.{table_size, records_on}
 use Rattle.exportfile.proofs.lines.table_size.Goals as goal
 

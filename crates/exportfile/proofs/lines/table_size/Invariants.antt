@@ -1,13 +1,9 @@
 -- As long as the lines of the records so far. Assumes nothing.
 use Prim.Native.Nat.{◌+◌, ◌-◌, ◌*◌, ◌≤◌}
-use mathlib.Core.Path.{◌≡◌, ap}
-use mathlib.Core.List.{[]}
-use native.Mathlib.Omega.{arith}
+use mathlib.Core.Path.{◌≡◌}
 use lib.ListN.{length}
-use borrow.Author.Rules.{rules}
-use Rattle.exchange.specs.RecordLine.{record_line, table_of}
+use Rattle.exchange.specs.RecordLine.{table_of}
 use Rattle.exportfile.specs.LinesOf.{records_at}
-use Rattle.exportfile.proofs.LineBytes.{table_size, records_on}
 use Rattle.exportfile.proofs.lines.table_size.Given as goal
 
 abbrev pub invariant-loop-k : goal.invariant-loop-k

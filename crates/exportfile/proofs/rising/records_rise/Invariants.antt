@@ -1,12 +1,8 @@
 -- Each pair of neighbours so far rises. Assumes nothing.
 use Prim.Native.Nat.{◌-◌, ◌≤◌}
-use mathlib.Core.Path.{◌≡◌, ◌∙◌}
-use mathlib.Core.Bool.{not}
-use native.Mathlib.Omega.{arith}
-use borrow.Author.Rules.{rules}
-use Rattle.base.proofs.Loop.{NoneTo, none_yet, none_on}
+use mathlib.Core.Path.{◌≡◌}
+use Rattle.base.proofs.Loop.{NoneTo}
 use Rattle.exportfile.specs.LinesOf.{record_of, stays}
-use Rattle.exportfile.proofs.RisesOrStays.{stays_is, rises_not, rises_all}
 use Rattle.exportfile.proofs.rising.records_rise.Given as goal
 
 abbrev pub invariant-loop-k : goal.invariant-loop-k

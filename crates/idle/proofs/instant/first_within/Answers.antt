@@ -1,6 +1,5 @@
 -- The later of the instant and the start lies in the stretch, or nothing from the instant on does. Assumes nothing.
 use native.Mathlib.Omega.{arith}
-use borrow.Author.Rules.{rules}
 use Rattle.idle.proofs.FirstFrom.{first_never}
 use Rattle.idle.proofs.instant.first_within.Goals as goal
 

@@ -1,11 +1,8 @@
 -- The loop keeps the first instant at which one of the records passed runs on the core. Assumes nothing.
 use Prim.Native.Nat.{◌-◌, ◌≤◌}
-use native.Mathlib.Omega.{arith}
-use borrow.Author.Rules.{rules}
 use lib.ListN.{length}
 use Rattle.idle.specs.FirstFrom.{FirstFrom, Among}
-use Rattle.idle.proofs.FirstFrom.{among_none, among_on}
-use Rattle.idle.proofs.Busy.{RunsIn, busy_from}
+use Rattle.idle.proofs.Busy.{RunsIn}
 use Rattle.idle.proofs.running.busy_from.Given as goal
 
 abbrev pub invariant-loop-k : goal.invariant-loop-k

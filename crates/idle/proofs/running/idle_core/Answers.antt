@@ -1,10 +1,8 @@
 -- The loop looks for the first core that is not busy. Assumes nothing.
-use Prim.Native.Nat.{◌+◌, ◌-◌, ◌≤◌}
-use mathlib.Core.Bool.{not}
 use native.Mathlib.Omega.{arith}
 use borrow.Author.Rules.{rules}
-use Rattle.base.proofs.Loop.{NoneTo, none_yet, none_on, first_hit, first_miss}
-use Rattle.idle.specs.Idle.{busy_in, idle_core_in}
+use Rattle.base.proofs.Loop.{none_yet, none_on, first_hit, first_miss}
+use Rattle.idle.specs.Idle.{idle_core_in}
 use Rattle.idle.proofs.running.idle_core.Goals as goal
 
 pub loop-c-init : goal.loop-c-init

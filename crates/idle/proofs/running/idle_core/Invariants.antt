@@ -1,14 +1,12 @@
 -- The loop looks for the first core that is not busy. Assumes nothing.
 use Prim.Native.Nat.{◌+◌, ◌-◌, ◌≤◌}
 use mathlib.Core.Bool.{not}
-use native.Mathlib.Omega.{arith}
-use borrow.Author.Rules.{rules}
-use Rattle.base.proofs.Loop.{NoneTo, none_yet, none_on, first_hit, first_miss}
-use Rattle.idle.specs.Idle.{busy_in, idle_core_in}
+use Rattle.base.proofs.Loop.{NoneTo}
+use Rattle.idle.specs.Idle.{busy_in}
 use Rattle.idle.proofs.running.idle_core.Given as goal
 
 abbrev pub invariant-loop-c : goal.invariant-loop-c
-invariant-loop-c l = (1 ≤ l.c) × (l.c ≤ l.cores + 1) × NoneTo (λ l.c. not (busy_in l.start l.end l.core l.c l.t)) 1 l.c
+invariant-loop-c l = (1 ≤ l.c) × (l.c ≤ l.cores + 1) × NoneTo (λ c. not (busy_in l.start l.end l.core c l.t)) 1 l.c
 
 abbrev pub decreases-loop-c : goal.decreases-loop-c
 decreases-loop-c l = l.cores + 1 - l.c

@@ -1,6 +1,5 @@
 -- A record runs within its stretch, on its core. Assumes nothing.
 use native.Mathlib.Omega.{arith}
-use borrow.Author.Rules.{rules}
 use Rattle.idle.proofs.FirstFrom.{first_same, first_never}
 use Rattle.idle.proofs.running.runs_from.Goals as goal
 

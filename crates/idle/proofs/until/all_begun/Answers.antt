@@ -1,9 +1,8 @@
 -- The loop keeps the latest of the instants at which the cores passed begin. Assumes nothing.
-use Prim.Native.Nat.{◌+◌, ◌-◌, ◌≤◌}
+use Prim.Native.Nat.{◌+◌}
 use mathlib.Core.Path.{◌≡◌}
 use native.Mathlib.Omega.{arith}
 use borrow.Author.Rules.{rules}
-use Rattle.idle.specs.Idle.{Begun}
 use Rattle.idle.proofs.Stretches.{begun_yet, begun_on}
 use Rattle.idle.proofs.until.all_begun.Goals as goal
 

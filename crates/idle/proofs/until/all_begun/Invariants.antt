@@ -1,10 +1,6 @@
 -- The loop keeps the latest of the instants at which the cores passed begin. Assumes nothing.
 use Prim.Native.Nat.{◌+◌, ◌-◌, ◌≤◌}
-use mathlib.Core.Path.{◌≡◌}
-use native.Mathlib.Omega.{arith}
-use borrow.Author.Rules.{rules}
 use Rattle.idle.specs.Idle.{Begun}
-use Rattle.idle.proofs.Stretches.{begun_yet, begun_on}
 use Rattle.idle.proofs.until.all_begun.Given as goal
 
 abbrev pub invariant-loop-c : goal.invariant-loop-c

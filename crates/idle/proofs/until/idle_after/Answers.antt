@@ -1,6 +1,5 @@
 -- One of the cores idles until it is busy. Assumes nothing.
 use native.Mathlib.Omega.{arith}
-use borrow.Author.Rules.{rules}
 use Rattle.idle.proofs.Stretches.{no_core, a_core}
 use Rattle.idle.proofs.until.idle_after.Goals as goal
 

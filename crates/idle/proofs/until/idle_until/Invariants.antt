@@ -1,11 +1,8 @@
 -- The loop writes the column. Assumes nothing.
 use Prim.Native.Nat.{◌-◌, ◌≤◌}
 use mathlib.Core.Path.{◌≡◌}
-use native.Mathlib.Omega.{arith}
-use borrow.Author.Rules.{rules}
-use lib.ListN.{length, length-set}
+use lib.ListN.{length}
 use Rattle.idle.specs.Idle.{Untils}
-use Rattle.idle.proofs.Stretches.{untils_yet, untils_on}
 use Rattle.idle.proofs.until.idle_until.Given as goal
 
 abbrev pub invariant-loop-k : goal.invariant-loop-k

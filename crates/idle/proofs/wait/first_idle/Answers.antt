@@ -1,14 +1,12 @@
 -- The first instant at which a core idles is within the wait, or there is none. Assumes nothing.
 use mathlib.Core.Path.{sym, ◌∙◌, ap}
-use mathlib.Core.Logic.{⊎_elim}
 use mathlib.Core.Bool.{true≢false}
 use native.Mathlib.Omega.{arith}
-use borrow.Author.Rules.{rules}
 use Rattle.base.specs.Find.{seen, found}
 use Rattle.base.proofs.Loop.{nothing_yet, first_of_hit, first_of_miss}
 use Rattle.idle.proofs.Idle.{IdleFrom, all_begun, not_begun_lem, none_idles}
 use Rattle.idle.proofs.wait.first_idle.Goals as goal
-use Rattle.idle.proofs.wait.first_idle.Goals.{Joined-begun-from}
+use Rattle.idle.proofs.wait.first_idle.Goals.{Joined-begun-from, then-begun-from, else-begun-from}
 
 -- where the two ways join, the instant is the first from the wait's first on at which a core idles
 abbrev Least : Joined-begun-from → Type 0
@@ -19,9 +17,11 @@ Least c =
 least : (c : Joined-begun-from) → Least c
 least c =
     let p = c.requires in
-    ⊎_elim (λ w. rw w.2 (all_begun _ _ _ _ p.beside.0 p.untils p.starts (omega arith) (omega arith) w.1.ensures))
-    (λ w. rw w.1 (not_begun_lem _ _ _ _ p.starts (omega arith)))
-    c.if-begun-from.branch
+    elim c.if-begun-from.branch [
+      | then-begun-from w ↦
+          rw w.least-is (all_begun _ _ _ _ p.beside.0 p.untils p.starts (omega arith) (omega arith) w.least_idle-least.ensures)
+      | else-begun-from w ↦ rw w.least-is (not_begun_lem _ _ _ _ p.starts (omega arith))
+    ]
 
 pub returns-then-to-from : goal.returns-then-to-from
 returns-then-to-from c = first_of_miss _ _ _ (omega arith) (nothing_yet _)

@@ -1,11 +1,8 @@
 -- The loop keeps the first instant within one of the stretches passed. Assumes nothing.
-use Prim.Native.Nat.{◌-◌, ◌≤◌}
 use mathlib.Core.Path.{◌≡◌}
 use native.Mathlib.Omega.{arith}
 use borrow.Author.Rules.{rules}
 use lib.ListN.{length}
-use Rattle.idle.specs.FirstFrom.{FirstFrom}
-use Rattle.idle.specs.Idle.{Stretches}
 use Rattle.idle.proofs.FirstFrom.{among_none, among_on}
 use Rattle.idle.proofs.wait.least_idle.Goals as goal
 

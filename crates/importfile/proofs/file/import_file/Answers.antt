@@ -2,7 +2,6 @@
 use mathlib.Core.Path.{sym, ◌∙◌}
 use Rattle.openfile.proofs.WholeOrRefused.{whole_tells, refused_tells}
 use Rattle.importfile.proofs.WaysOfImport.{says_refused}
-use borrow.Author.Rules.{rules}
 use Rattle.importfile.proofs.file.import_file.Goals as goal
 
 pub import_whole-requires : goal.import_whole-requires

@@ -1,7 +1,6 @@
 -- 11, or the file is written. Assumes nothing.
 use native.Mathlib.Omega.{arith}
 use Rattle.importfile.proofs.WaysOfImport.{size_fits, importable, says_11, says_5}
-use borrow.Author.Rules.{rules}
 use Rattle.importfile.proofs.file.import_rows.Goals as goal
 
 pub returns-then-output-size : goal.returns-then-output-size

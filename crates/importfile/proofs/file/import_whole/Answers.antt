@@ -1,7 +1,6 @@
 -- The lines, and then the rest. Assumes nothing.
 use mathlib.Core.Path.{sym, ◌∙◌}
 use Rattle.importfile.proofs.WaysOfImport.{says_line, says_taken, all_taken_lem, taken_of, rowed}
-use borrow.Author.Rules.{rules}
 use Rattle.importfile.proofs.file.import_whole.Goals as goal
 
 pub import_rows-requires : goal.import_rows-requires

@@ -1,11 +1,9 @@
 -- One key after the other. Assumes nothing.
-use Prim.Native.Nat.{◌-◌, ◌≤◌, ◌+◌}
+use Prim.Native.Nat.{◌+◌}
 use mathlib.Core.Path.{◌≡◌}
 use native.Mathlib.Omega.{arith}
 use borrow.Author.Rules.{rules}
-use Rattle.base.specs.Fill.{Fills}
 use Rattle.base.proofs.Fill.{fills_none, fills_on}
-use Rattle.importfile.specs.Importable.{key_in}
 use Rattle.importfile.proofs.rows.fill_keys.Goals as goal
 
 pub loop-k-init : goal.loop-k-init

@@ -1,10 +1,6 @@
 -- One key after the other. Assumes nothing.
-use Prim.Native.Nat.{◌-◌, ◌≤◌, ◌+◌}
-use mathlib.Core.Path.{◌≡◌}
-use native.Mathlib.Omega.{arith}
-use borrow.Author.Rules.{rules}
+use Prim.Native.Nat.{◌-◌, ◌≤◌}
 use Rattle.base.specs.Fill.{Fills}
-use Rattle.base.proofs.Fill.{fills_none, fills_on}
 use Rattle.importfile.specs.Importable.{key_in}
 use Rattle.importfile.proofs.rows.fill_keys.Given as goal
 

@@ -1,13 +1,10 @@
 -- Row after row. Assumes nothing.
-use Prim.Native.Nat.{◌+◌, ◌*◌, ◌-◌, ◌≤◌}
 use mathlib.Core.Path.{◌≡◌, refl, subst}
 use native.Mathlib.Omega.{arith}
 use lib.ListN.{length}
 use borrow.Author.Rules.{rules}
-use Rattle.model.specs.Model.{Run}
-use Rattle.table.specs.Table.{Sized, Lent, Rows, recorded}
+use Rattle.table.specs.Table.{Rows, recorded}
 use Rattle.table.proofs.LentLaws.{sized_as, rows_none, rows_all}
-use Rattle.importfile.specs.Importable.{Follows}
 use Rattle.importfile.proofs.InRows.{row_on}
 use Rattle.importfile.proofs.rows.lay_out.Goals as goal
 

@@ -1,5 +1,4 @@
 -- The keys, and then the order. Assumes nothing.
-use borrow.Author.Rules.{rules}
 use Rattle.importfile.proofs.InRows.{ordered}
 use Rattle.importfile.proofs.rows.order_rows.Goals as goal
 

@@ -1,6 +1,5 @@
 -- Six numbers, one after the other. Assumes nothing.
 use mathlib.Core.Path.{refl}
-use borrow.Author.Rules.{rules}
 use Rattle.importfile.specs.Importable.{row_of}
 use Rattle.importfile.proofs.rows.row_of.Goals as goal
 

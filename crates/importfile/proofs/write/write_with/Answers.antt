@@ -1,11 +1,6 @@
 -- The order, the table, the tasks, the file. Assumes nothing.
-use mathlib.Core.List.{List}
 use borrow.Author.Rules.{rules}
-use Rattle.model.specs.declared.record.Record.{Record}
-use Rattle.model.specs.Model.{Run}
 use Rattle.openfile.proofs.Leading.{leads_front}
-use Rattle.table.specs.Table.{Sized}
-use Rattle.importfile.specs.Importable.{Importable}
 use Rattle.importfile.proofs.InRows.{none_yet, to_come, tabled}
 use Rattle.importfile.proofs.write.write_with.Goals as goal
 

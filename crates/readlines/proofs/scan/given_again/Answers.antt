@@ -1,6 +1,5 @@
 -- Without a mark it is not given; else it is searched. Assumes nothing.
 use mathlib.Core.Path.{sym}
-use borrow.Author.Rules.{rules}
 use Rattle.readlines.proofs.scan.given_again.Goals as goal
 
 pub returns-then-mark-eq0 : goal.returns-then-mark-eq0

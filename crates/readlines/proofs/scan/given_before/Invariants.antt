@@ -1,13 +1,6 @@
 use Prim.Native.Nat.{◌-◌, ◌≤◌}
-use mathlib.Core.Path.{ap}
-use mathlib.Core.Logic.{⊎_elim}
-use native.Mathlib.Omega.{arith}
-use borrow.Author.Rules.{rules}
-use Rattle.base.specs.Find.{found}
-use Rattle.base.proofs.Loop.{NoneTo, none_yet, none_on, first_hit, first_miss}
-use Rattle.base.proofs.Test.{says_true, says_false}
+use Rattle.base.proofs.Loop.{NoneTo}
 use Rattle.model.specs.Model.{same_job}
-use Rattle.model.proofs.RuleTests.{says_same_job}
 use Rattle.readlines.specs.Scan.{job_in}
 use Rattle.readlines.proofs.scan.given_before.Given as goal
 

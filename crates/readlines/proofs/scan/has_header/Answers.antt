@@ -1,8 +1,7 @@
-use Prim.Native.Nat.{◌-◌}
 use mathlib.Core.Path.{refl}
 use native.Mathlib.Omega.{arith}
 use borrow.Author.Rules.{rules}
-use Rattle.readlines.proofs.LineByLine.{Met, met_short, met_not, met_on, met_all}
+use Rattle.readlines.proofs.LineByLine.{met_short, met_not, met_on, met_all}
 use Rattle.readlines.proofs.scan.has_header.Goals as goal
 
 pub returns-then-table-lt-HEADER_SIZE : goal.returns-then-table-lt-HEADER_SIZE

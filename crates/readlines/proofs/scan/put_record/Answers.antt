@@ -1,6 +1,3 @@
-use borrow.Author.Rules.{rules}
-use native.Mathlib.Omega.{arith}
-use lib.ListN.{length-set}
 use Rattle.readlines.proofs.SideBySide.{six_stores}
 use Rattle.readlines.proofs.scan.put_record.Goals as goal
 

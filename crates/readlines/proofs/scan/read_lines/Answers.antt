@@ -5,8 +5,8 @@ use Rattle.readlines.proofs.LineByLine.{scan_headless, scan_headed}
 use Rattle.readlines.proofs.scan.read_lines.Goals as goal
 
 pub returns-then-not-has_header : goal.returns-then-not-has_header
-returns-then-not-has_header c = scan_headless _ c.has_header.result c.has_header.ensures _ c.if-not-has_header.true-raw
+returns-then-not-has_header c = scan_headless _ c.has_header.result c.has_header.ensures _ (search rules)
 
 pub scan_lines-requires : goal.scan_lines-requires
 scan_lines-requires c =
-    (search rules, omega arith, scan_headed _ c.has_header.result c.has_header.ensures c.if-not-has_header.false-raw)
+    (search rules, omega arith, scan_headed _ c.has_header.result c.has_header.ensures (search rules))

@@ -1,11 +1,9 @@
 -- The invariant: so far the table was read line by line, the records stand at the front of the rows, and their jobs have left their marks.
 -- The measure is what is left of the table. Assumes nothing.
 use Prim.Native.Nat.{◌-◌}
-use mathlib.Core.Path.{◌≡◌, refl}
-use native.Mathlib.Omega.{arith}
-use borrow.Author.Rules.{rules}
+use mathlib.Core.Path.{◌≡◌}
 use lib.ListN.{length}
-use Rattle.readlines.proofs.LineByLine.{good_of, bad_of, Scanning, scan_starts, scan_unmarked, scan_end, scan_bad, scan_many, scan_given, scan_on}
+use Rattle.readlines.proofs.LineByLine.{Scanning}
 use Rattle.readlines.proofs.scan.scan_lines.Given as goal
 
 abbrev pub invariant-loop-at : goal.invariant-loop-at

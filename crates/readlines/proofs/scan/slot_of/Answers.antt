@@ -1,7 +1,6 @@
 -- A remainder. Assumes nothing.
 use mathlib.Core.Path.{refl}
 use native.Mathlib.Omega.{arith}
-use borrow.Author.Rules.{rules}
 use Rattle.readlines.specs.Scan.{slot_of}
 use Rattle.readlines.proofs.scan.slot_of.Goals as goal
 

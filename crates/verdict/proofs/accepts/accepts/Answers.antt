@@ -2,7 +2,6 @@ use mathlib.Core.Path.{◌≡◌, sym, ap}
 use lib.Dec.{leb}
 use Rattle.model.specs.declared.answer.Answer.{Answer}
 use Rattle.model.specs.Answers.{five_of}
-use borrow.Author.Rules.{rules}
 use Rattle.verdict.proofs.accepts.accepts.Goals as goal
 
 -- the test of an answer, by its case

@@ -1,6 +1,5 @@
 use mathlib.Core.Path.{◌∙◌, ap}
 use lib.Dec.{leb}
-use borrow.Author.Rules.{rules}
 use Rattle.verdict.proofs.accepts.accepts_run.Goals as goal
 
 pub returns : goal.returns

@@ -2,7 +2,6 @@
 use mathlib.Core.Path.{◌∙◌, ap}
 use mathlib.Core.Option.{map}
 use native.Mathlib.Omega.{arith}
-use borrow.Author.Rules.{rules}
 use Rattle.model.specs.Compute.Places.{one}
 use Rattle.verdict.proofs.Tied.{column_is, turn_tied}
 use Rattle.verdict.proofs.asked.out_of_turn.Goals as goal

@@ -1,10 +1,8 @@
 -- The loop keeps what is late of the records passed. Assumes nothing.
-use Prim.Native.Nat.{◌≤◌, ◌-◌}
 use mathlib.Core.Path.{◌≡◌, refl}
 use native.Mathlib.Omega.{arith}
 use borrow.Author.Rules.{rules}
 use lib.ListN.{length}
-use Rattle.verdict.specs.Late.{LateOf}
 use Rattle.verdict.proofs.Lateness.{late_none, late_few}
 use Rattle.verdict.proofs.late.late_records.Goals as goal
 

@@ -1,10 +1,9 @@
 -- One record more: in time, or late and begun before the horizon or not. Assumes nothing.
 use mathlib.Core.Path.{◌∙◌}
-use mathlib.Core.Logic.{⊎_elim}
 use native.Mathlib.Omega.{arith}
-use borrow.Author.Rules.{rules}
 use Rattle.verdict.proofs.Lateness.{in_time_on, late_on, early_on, early_kept}
 use Rattle.verdict.proofs.late.late_with.Goals as goal
+use Rattle.verdict.proofs.late.late_with.Goals.{then-start-horizon, else-start-horizon}
 
 pub returns-then-end-due : goal.returns-then-end-due
 returns-then-end-due c ds ss es d s e L = in_time_on _ _ _ _ L (omega arith)
@@ -12,4 +11,7 @@ returns-then-end-due c ds ss es d s e L = in_time_on _ _ _ _ L (omega arith)
 pub returns : goal.returns
 returns c ds ss es d s e L =
     late_on _ _ _ _ L (omega arith) c.or_this.ensures
-    (⊎_elim (λ w. early_on _ _ _ _ L (omega arith) (omega arith) (w.2 ∙ w.1.ensures)) (λ w. early_kept _ _ _ _ L (omega arith) w.1) c.if-start-horizon.branch)
+    (elim c.if-start-horizon.branch [
+      | then-start-horizon w ↦ early_on _ _ _ _ L (omega arith) (omega arith) (w.early-is ∙ w.or_this-early.ensures)
+      | else-start-horizon w ↦ early_kept _ _ _ _ L (omega arith) w.early-is
+    ])

@@ -1,6 +1,5 @@
 -- Each case is one of the definition's. Assumes nothing.
 use mathlib.Core.Path.{sym, ap}
-use borrow.Author.Rules.{rules}
 use Rattle.verdict.specs.Late.{or_this}
 use Rattle.verdict.proofs.late.or_this.Goals as goal
 

@@ -1,6 +1,5 @@
 -- The answer from what is late. Assumes nothing.
 use mathlib.Core.Path.{refl, ap}
-use borrow.Author.Rules.{rules}
 use Rattle.base.specs.Find.{seen}
 use Rattle.verdict.proofs.Lateness.{timely_of_lem}
 use Rattle.verdict.proofs.late.timely.Goals as goal
