@@ -1,9 +1,8 @@
 -- What is exported: the lines rise by start and then by record place, and are those of all records; and when the records rise. Assumes
 -- nothing.
 use Prim.Native.Nat.{ℕ, zero, suc, ◌+◌, ◌-◌, ◌≤◌, ◌<◌}
-use mathlib.Core.Path.{◌≡◌, refl, sym, ◌∙◌, ap, subst}
+use mathlib.Core.Path.{◌≡◌, refl, sym, subst}
 use mathlib.Core.Logic.{◌⊎◌, inl, inr}
-use mathlib.Core.Bool.{not}
 use mathlib.Core.List.{List, [], ◌∷◌, map}
 use native.Mathlib.Omega.{arith}
 use lib.ListN.{length, get_or}
@@ -16,7 +15,7 @@ use Rattle.sorting.proofs.Entries.{same_map}
 use Rattle.sorting.proofs.Rising.{rises_weaken, rises_from}
 use Rattle.sorting.proofs.Sorted.{by_key_same, by_key_rises, order_within}
 use Rattle.sorting.proofs.UpTo.{map_up}
-use Rattle.exchange.specs.Import.{JobBefore, job_before}
+use Rattle.exchange.specs.Import.{JobBefore}
 use Rattle.exchange.specs.Export.{start_times, by_start, RiseStrictly, rise}
 use Rattle.exchange.proofs.ImportedRun.{says_job_before, job_chain}
 

@@ -1,14 +1,13 @@
 -- Bytes of a table past the 33,890th do not alter what is read of it: the header, 512 lines of at most 66 bytes, and one line more. Assumes
 -- nothing.
-use Prim.Native.Nat.{ℕ, zero, suc, ◌+◌, ◌-◌, ◌*◌, ◌≤◌, ◌<◌}
+use Prim.Native.Nat.{ℕ, zero, suc, ◌+◌, ◌-◌, ◌*◌, ◌≤◌}
 use mathlib.Core.Path.{◌≡◌, refl, sym, ◌∙◌, ap}
 use mathlib.Core.Bool.{Bool, true, false}
 use mathlib.Core.List.{List, [], ◌∷◌, ◌++◌, append_assoc}
 use mathlib.Core.Option.{Option, none, some}
-use native.Mathlib.Nat.{mul-suc}
 use native.Mathlib.Omega.{arith}
-use lib.ListN.{length, take, drop, length-take, length-append, take-append-drop}
-use lib.Seq.{take-append-add, length-take-le}
+use lib.ListN.{length, take, drop, length-take, take-append-drop}
+use lib.Seq.{take-append-add}
 use Rattle.model.specs.declared.record.Record.{Record}
 use Rattle.model.specs.Model.{job_of, most_records}
 use Rattle.model.specs.File.{Read, refused, whole, read, bytes}
@@ -17,7 +16,7 @@ use Rattle.exchange.specs.LineIn.{after, line_in}
 use Rattle.exchange.specs.TextTable.{given, lines_from, table_read}
 use Rattle.exchange.specs.Import.{import_if, import_of, imported, import_table}
 use Rattle.exchange.proofs.LineLaws.{length-header, after_is, after_got, line_in_of, line_in_got, line_in_none, length-line}
-use Rattle.exchange.proofs.TableLaws.{lines_end, lines_bad, lines_many, lines_given, lines_taken, read_headed, read_headless}
+use Rattle.exchange.proofs.TableLaws.{lines_bad, lines_many, lines_given, lines_taken, read_headed, read_headless}
 
 -- the front of two texts, one after the other
 take_past : (p l : List ℕ) (k : ℕ) → length p ≤ k → take k (p ++ l) ≡ p ++ take (k - length p) l

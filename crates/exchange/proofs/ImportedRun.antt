@@ -1,20 +1,19 @@
 -- The run that is imported: its records are those of the lines, in rising order of task and job, and its file is a whole run file.
 -- Assumes nothing.
-use Prim.Native.Nat.{ℕ, ◌≤◌, ◌<◌}
-use mathlib.Core.Path.{◌≡◌, refl, sym, ◌∙◌, ap, subst}
-use mathlib.Core.Logic.{◌⊎◌, inl, inr, ⊎_elim}
+use Prim.Native.Nat.{ℕ, ◌<◌}
+use mathlib.Core.Path.{◌≡◌, ap}
+use mathlib.Core.Logic.{◌⊎◌, inl, inr}
 use mathlib.Core.Bool.{Bool, ◌&&◌}
 use mathlib.Core.List.{List}
 use native.Mathlib.Omega.{arith}
 use native.Mathlib.Decide.{dec_lt}
 use lib.Dec.{eqb}
-use lib.ListN.{length, get_or}
 use Rattle.base.proofs.Test.{Says, says_or, says_and, says_ltb, says_eqb, says_map}
 use Rattle.model.specs.declared.record.Record.{Record}
 use Rattle.model.specs.Model.{Run, Job, WithinLimits, IsRecord, rec, job_of, no_record}
 use Rattle.model.specs.File.{RecordFits, bytes, whole, read}
 use Rattle.model.proofs.RoundTrip.{read_back}
-use Rattle.sorting.specs.Sorted.{SameEntries, Each, Rises}
+use Rattle.sorting.specs.Sorted.{SameEntries, Rises}
 use Rattle.sorting.proofs.Entries.{same_sym, same_trans, same_length}
 use Rattle.sorting.proofs.Only.{only_rising}
 use Rattle.sorting.proofs.Rising.{rises_weaken, each_at}

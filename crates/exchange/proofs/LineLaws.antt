@@ -1,5 +1,5 @@
 -- The line that stands first in a text: what is found by computing is what the text is. Assumes nothing.
-use Prim.Native.Nat.{ℕ, zero, suc, ◌+◌, ◌-◌, ◌*◌, ◌≤◌, ◌<◌}
+use Prim.Native.Nat.{ℕ, ◌+◌, ◌-◌, ◌*◌, ◌≤◌, ◌<◌}
 use mathlib.Core.Path.{◌≡◌, refl, sym, ◌∙◌, ap, subst}
 use mathlib.Core.Bool.{Bool, true, false}
 use mathlib.Core.List.{List, [], ◌∷◌, ◌++◌, append_assoc}
@@ -13,9 +13,9 @@ use borrow.Author.Tests.{lt-ltb, le-ltb}
 use Rattle.base.proofs.Test.{Says, says_and, says_ltb, says_eqb, says_true, says_false, says_map}
 use Rattle.model.specs.declared.record.Record.{Record}
 use Rattle.model.specs.Model.{no_record}
-use Rattle.model.specs.File.{FourBytes, RecordFits, record_numbers}
-use Rattle.model.specs.Report.{decimal, line_by}
-use Rattle.model.proofs.RoundTrip.{Fits, fits_nil, fits_cons}
+use Rattle.model.specs.File.{FourBytes, RecordFits}
+use Rattle.model.specs.Report.{decimal}
+use Rattle.model.proofs.RoundTrip.{fits_nil, fits_cons}
 use Rattle.decimal.proofs.Decimal.{Digits, none as no_digit, more as digit_more, decimal_digits, value_from, value_decimal, length-decimal}
 use Rattle.exchange.specs.RecordLine.{header, record_line, LineFirst}
 use Rattle.exchange.specs.LineIn.{after, digits_on, number_of, behind, guess, fit, line_if, line_in}

@@ -2,7 +2,6 @@
 use Prim.Native.Nat.{ℕ, ◌≤◌, ◌<◌}
 use mathlib.Core.Path.{◌≡◌, refl, sym, ◌∙◌, ap, subst}
 use mathlib.Core.Logic.{◌↔◌}
-use mathlib.Core.Bool.{Bool, true, false}
 use mathlib.Core.List.{List}
 use mathlib.Core.Option.{Option, none, some}
 use native.Mathlib.Omega.{arith}
@@ -15,10 +14,9 @@ use Rattle.model.specs.Model.{Run}
 use Rattle.model.specs.File.{Read, refused, whole, read, bytes}
 use Rattle.model.specs.Answers.{Outcome, refused_with, gate_outcome, written_out}
 use Rattle.model.proofs.Gates.{gate_opens, gate_closes}
-use Rattle.exchange.specs.RecordLine.{table_of}
-use Rattle.exchange.specs.TextTable.{Taken, RefusesAt, TableRead, all_taken, table_read}
+use Rattle.exchange.specs.TextTable.{all_taken, table_read}
 use Rattle.exchange.specs.Import.{imported, import_if, import_of, import_table, ImportSays}
-use Rattle.exchange.specs.Export.{exported, RiseStrictly, rise, export_run, export_of, export_file, ExportSays}
+use Rattle.exchange.specs.Export.{exported, RiseStrictly, export_run, export_of, export_file, ExportSays}
 use Rattle.exchange.proofs.TakenOrRefused.{taken_exactly, refused_exactly}
 use Rattle.exchange.proofs.ExportedLines.{says_rise}
 

@@ -15,11 +15,11 @@ use Rattle.model.specs.Model.{Job, job_of, most_records, no_record}
 use Rattle.model.specs.File.{RecordFits, joined}
 use Rattle.model.proofs.Joined.{joined_on}
 use Rattle.model.proofs.RuleTests.{says_same_job}
-use Rattle.sorting.specs.Sorted.{Each, each_none, Rises, rises_none}
+use Rattle.sorting.specs.Sorted.{each_none, rises_none}
 use Rattle.sorting.proofs.Rising.{each_on, each_at, each_from, rises_on, rises_at_lem}
 use Rattle.exchange.specs.RecordLine.{header, record_line, table_of, LineFirst}
 use Rattle.exchange.specs.LineIn.{after, line_in}
-use Rattle.exchange.specs.TextTable.{Taken, Given, line_number, RefusesAt, no_header, bad_line, too_many, given_before, TableRead, all_taken, stops_at, given, lines_from, table_read}
+use Rattle.exchange.specs.TextTable.{Taken, Given, RefusesAt, no_header, bad_line, too_many, given_before, TableRead, all_taken, stops_at, given, lines_from, table_read}
 use Rattle.exchange.proofs.LineLaws.{after_is, after_got, line_in_of, line_in_got, line_in_none, line_some}
 use Rattle.exchange.proofs.TableLaws.{lines_end, lines_bad, lines_many, lines_given, lines_taken, read_headed, read_headless}
 

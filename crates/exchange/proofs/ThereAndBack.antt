@@ -16,12 +16,10 @@ use Rattle.model.proofs.FiveFit.{record_fits}
 use Rattle.model.proofs.Gates.{gate_opens}
 use Rattle.model.proofs.Reading.{read_limits}
 use Rattle.model.proofs.RecordBytes.{bytes_back}
-use Rattle.sorting.specs.Sorted.{SameEntries, Each, Rises}
 use Rattle.sorting.proofs.Entries.{same_sym, same_length, each_carried}
 use Rattle.sorting.proofs.Rising.{each_from, rises_map}
-use Rattle.exchange.specs.RecordLine.{table_of}
 use Rattle.exchange.specs.TextTable.{Taken, all_taken, table_read}
-use Rattle.exchange.specs.Import.{JobBefore, imported, import_if, import_of, import_table}
+use Rattle.exchange.specs.Import.{imported, import_if, import_of, import_table}
 use Rattle.exchange.specs.Export.{by_start, exported, RiseStrictly, export_of, export_run, export_file}
 use Rattle.exchange.proofs.TakenOrRefused.{taken_exactly}
 use Rattle.exchange.proofs.ImportedRun.{job_apart, says_same_record, same_record, imported_only}

@@ -1,5 +1,7 @@
 // Document 02, request 1: a run as a text table, in and out. Definitions and theorems, and the header line; the rest of the code stands in
 // the crates above.
+#![tactic(auto)]
+
 ghost use Rattle.std.specs.Prelude.{◌≡◌};
 ghost use Rattle.exchange.specs.RecordLine.{header};
 

@@ -1,4 +1,6 @@
 // The records of a file as a table, each number read once; and rule 1, the recorded jobs against those that exist.
+#![tactic(auto)]
+
 mod jobs;
 mod read;
 

@@ -3,7 +3,7 @@
 use Prim.Native.Nat.{ℕ}
 use mathlib.Core.Path.{refl}
 use mathlib.Core.List.{List, []}
-use denote.Ref.{Bor}
+use denote.Ref.{Bor, MutBor}
 use Rattle.model.specs.File.{Bytes}
 use Rattle.model.specs.Calls.{check_call, carry_call}
 use Rattle.exchange.specs.Import.{import_call}
@@ -17,6 +17,10 @@ use Rattle.octalmure.proofs.WhyPromise.{Asks}
 abbrev ref : List ℕ → Bor (List ℕ)
 ref l = record { ref_ptr = (0, 0); now = l }
 
+-- a slice that is lent to be written, by its contents
+abbrev ref_mut : List ℕ → MutBor (List ℕ)
+ref_mut l = record { ref_ptr = (0, 0); ghost_name = 0; now = l }
+
 pub check_gives : (b a : List ℕ) → Bytes b → (r : ℕ) × (a' : List ℕ) × Checks b a r a'
 check_gives b a B =
     let c = check_call b a in (
@@ -25,8 +29,8 @@ check_gives b a B =
       record {
         of_bytes = B;
         lifetimes = ([], ([], tt));
-        lent = (ref b, (ref a, tt));
-        back = (ref b, (ref c.answer, tt));
+        lent = (ref b, (ref_mut a, tt));
+        back = (ref b, (ref_mut c.answer, tt));
         permitted = (refl, refl);
         file = refl;
         answer = refl;
@@ -43,8 +47,8 @@ carry_gives b H' o a B =
       record {
         of_bytes = B;
         lifetimes = ([], ([], ([], tt)));
-        lent = (ref b, (H', (ref o, (ref a, tt))));
-        back = (ref b, (H', (ref c.output, (ref c.answer, tt))));
+        lent = (ref b, (H', (ref_mut o, (ref_mut a, tt))));
+        back = (ref b, (H', (ref_mut c.output, (ref_mut c.answer, tt))));
         permitted = (refl, refl, refl);
         file = refl;
         horizon = refl;
@@ -64,8 +68,8 @@ import_gives b T o a B =
       record {
         of_bytes = B;
         lifetimes = ([], ([], ([], ([], tt))));
-        lent = (ref b, (ref T, (ref o, (ref a, tt))));
-        back = (ref b, (ref T, (ref c.output, (ref c.answer, tt))));
+        lent = (ref b, (ref T, (ref_mut o, (ref_mut a, tt))));
+        back = (ref b, (ref T, (ref_mut c.output, (ref_mut c.answer, tt))));
         permitted = (refl, refl, refl);
         file = refl;
         table = refl;
@@ -85,8 +89,8 @@ export_gives b o a B =
       record {
         of_bytes = B;
         lifetimes = ([], ([], ([], tt)));
-        lent = (ref b, (ref o, (ref a, tt)));
-        back = (ref b, (ref c.output, (ref c.answer, tt)));
+        lent = (ref b, (ref_mut o, (ref_mut a, tt)));
+        back = (ref b, (ref_mut c.output, (ref_mut c.answer, tt)));
         permitted = (refl, refl, refl);
         file = refl;
         output = refl;
@@ -105,8 +109,8 @@ why_gives_some b k o a B =
       record {
         of_bytes = B;
         lifetimes = ([], ([], ([], tt)));
-        lent = (ref b, (k, (ref o, (ref a, tt))));
-        back = (ref b, (k, (ref c.output, (ref c.answer, tt))));
+        lent = (ref b, (k, (ref_mut o, (ref_mut a, tt))));
+        back = (ref b, (k, (ref_mut c.output, (ref_mut c.answer, tt))));
         permitted = (refl, refl, refl);
         file = refl;
         asked = refl;

@@ -1,4 +1,6 @@
 // What a C host calls. A byte slice passes as a pointer and then a length.
+#![tactic(auto)]
+
 mod carry;
 mod check;
 mod export;

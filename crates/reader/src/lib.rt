@@ -1,4 +1,6 @@
 // A reader over a lent file: it holds the file and where its sections stand, and gives a record as the bytes of the file that it is.
+#![tactic(auto)]
+
 mod search;
 
 ghost use Rattle.std.specs.Prelude.{◌≡◌, length};

@@ -1,4 +1,6 @@
 // What stands at H of a run that is to be carried: its table with the jobs that exist at H'.
+#![tactic(auto)]
+
 mod jobs;
 mod records;
 

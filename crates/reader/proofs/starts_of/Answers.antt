@@ -1,4 +1,3 @@
-use borrow.Author.Rules.{rules}
 use mathlib.Core.Path.{sym, ◌∙◌}
 use Rattle.openfile.proofs.WholeOrRefused.{whole_tells, refused_tells}
 use Rattle.reader.proofs.SectionStarts.{starts_refused, starts_told}

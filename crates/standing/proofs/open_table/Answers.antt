@@ -1,8 +1,7 @@
+-- Each call fills in what the next one asks for. Assumes nothing.
 use Rattle.model.specs.Carry.{opening}
 use Rattle.standing.proofs.NextAsks.{stands_jobs, stands_listed}
-use borrow.Author.Rules.{rules}
 use Rattle.standing.proofs.open_table.Goals as goal
-use Rattle.standing.proofs.open_table.Goals.{After-fill_times-arg-1, After-fill_times-arg-2-1}
 
 pub list_jobs-requires : goal.list_jobs-requires
 list_jobs-requires c = let (l, (ρ, C)) = c.requires in (l, (opening ρ _, stands_jobs C))
@@ -19,13 +18,16 @@ fill_times-requires c =
 
 pub fill_times-requires-2 : goal.fill_times-requires-2
 fill_times-requires-2 c =
-    let (σ, L) = fill-times-requires ((goal.at.fill_times-requires-2 c).After-fill_times-arg-1) c.fill_times.lifetimes in
-    (σ, record { tasks = L.tasks; jobs = L.jobs; table = (c.fill_times.ensures σ L).lent })
+    let (ρ, C) = c.requires.1 in
+    let table = c.open_records.ensures ρ _ C (c.list_jobs.ensures (opening ρ _) (stands_jobs C)) in
+    (opening ρ _, stands_listed C (c.fill_times.ensures (opening ρ _) (stands_listed C table)).lent)
 
 pub fill_times-requires-3 : goal.fill_times-requires-3
 fill_times-requires-3 c =
-    let (σ, L) = fill-times-requires-2 ((goal.at.fill_times-requires-3 c).After-fill_times-arg-2-1) c.fill_times-2.lifetimes in
-    (σ, record { tasks = L.tasks; jobs = L.jobs; table = (c.fill_times-2.ensures σ L).lent })
+    let (ρ, C) = c.requires.1 in
+    let table = c.open_records.ensures ρ _ C (c.list_jobs.ensures (opening ρ _) (stands_jobs C)) in
+    let releases = c.fill_times.ensures (opening ρ _) (stands_listed C table) in
+    (opening ρ _, stands_listed C (c.fill_times-2.ensures (opening ρ _) (stands_listed C releases.lent)).lent)
 
 pub returns : goal.returns
 returns c ρ C =

@@ -1,5 +1,5 @@
 use borrow.Author.Rules.{rules}
-use Prim.Native.Nat.{◌+◌, ◌-◌, ◌≤◌, ◌<◌}
+use Prim.Native.Nat.{◌+◌, ◌≤◌, ◌<◌}
 use mathlib.Core.Path.{◌∙◌}
 use native.Mathlib.Omega.{arith}
 use lib.ListN.{length}
@@ -8,7 +8,7 @@ use Rattle.openfile.specs.Head.{Known}
 use Rattle.openfile.proofs.WholeOrRefused.{head_setting, head_task_count, head_count}
 use Rattle.table.specs.Table.{Lent, recorded}
 use Rattle.table.proofs.LentLaws.{column_of_lem}
-use Rattle.loadrun.proofs.SameJobs.{SameTo, same_none, NextTask, next_fits, task_same, task_differs, records_left, none_left}
+use Rattle.loadrun.proofs.SameJobs.{same_none, NextTask, next_fits, task_same, task_differs, records_left, none_left}
 use Rattle.loadrun.proofs.jobs.jobs_place.Goals as goal
 use Rattle.loadrun.proofs.jobs.jobs_place.Goals.{After-column-in-loop-i, In-loop-i}
 
@@ -16,7 +16,7 @@ use Rattle.loadrun.proofs.jobs.jobs_place.Goals.{After-column-in-loop-i, In-loop
 next : (c : After-column-in-loop-i)
     → let a = c.args in
     let l = c.loop-i in
-    (ρ : Run) → Known a.head a.t2 ρ → Lent recorded ρ a.t.now a.head.records
+    (ρ : Run) → Known a.head a.tasks ρ → Lent recorded ρ a.t.now a.head.records
     → NextTask ρ c.column.result.now c.column-in-loop-i.result.now l.i l.at c.jobs-count.result
 next c ρ K L =
     let i = c.loop-i.i in

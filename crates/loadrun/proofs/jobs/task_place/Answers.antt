@@ -1,11 +1,11 @@
 use borrow.Author.Rules.{rules}
-use Prim.Native.Nat.{◌+◌, ◌-◌, ◌≤◌}
+use Prim.Native.Nat.{◌+◌, ◌-◌}
 use mathlib.Core.Path.{◌≡◌, sym, ◌∙◌}
 use mathlib.Core.Bool.{true}
 use mathlib.Core.Option.{some}
 use native.Mathlib.Omega.{arith}
 use Rattle.base.specs.Find.{first}
-use Rattle.base.proofs.Loop.{NoneTo, none_yet, none_on, first_hit, first_miss}
+use Rattle.base.proofs.Loop.{none_yet, none_on, first_hit, first_miss}
 use Rattle.base.proofs.Test.{says_true, says_false}
 use Rattle.loadrun.specs.OtherJob.{other_job}
 use Rattle.loadrun.proofs.SameJobs.{says_other}

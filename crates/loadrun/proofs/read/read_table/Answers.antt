@@ -1,28 +1,17 @@
 use borrow.Author.Rules.{rules}
-use Prim.Native.Nat.{◌+◌, ◌*◌, ◌-◌, ◌≤◌}
 use mathlib.Core.Path.{◌≡◌, ◌∙◌}
 use native.Mathlib.Omega.{arith}
-use lib.ListN.{length}
-use Rattle.model.specs.Model.{Run}
 use Rattle.openfile.proofs.WholeOrRefused.{tells_place, tells_size, tells_few}
-use Rattle.table.specs.Table.{Loads, columns, recorded}
+use Rattle.table.specs.Table.{columns, recorded}
 use Rattle.table.proofs.ColumnsApart.{column_within}
-use Rattle.loadrun.proofs.RecordNumbers.{StandAt, told_stand, read_none, read_on}
+use Rattle.loadrun.proofs.RecordNumbers.{told_stand, read_none, read_on}
 use Rattle.loadrun.proofs.read.read_table.Goals as goal
-use Rattle.loadrun.proofs.read.read_table.Goals.{After-read_column-arg-1}
-
-within : (c : After-read_column-arg-1)
-    → let n = c.args.head.records in
-    c.loop-j.j * n + n ≤ length c.loop-j.t
-within c =
-    let n = c.args.head.records in
-    omega (arith, column_within columns c.loop-j.j n (omega arith))
 
 pub loop-j-init : goal.loop-j-init
 loop-j-init c = (search rules, search rules, λ ρ S. read_none S _ c.requires.0.long)
 
 pub overflow_mul-j-in-loop-j : goal.overflow_mul-j-in-loop-j
-overflow_mul-j-in-loop-j c = omega (arith, within ((goal.at.overflow_mul-j-in-loop-j c).After-read_column-arg-1))
+overflow_mul-j-in-loop-j c = omega (arith, column_within columns c.loop-j.j c.args.head.records (omega arith))
 
 pub read_column-requires : goal.read_column-requires
 read_column-requires c =
@@ -32,7 +21,7 @@ read_column-requires c =
       place = omega (arith, tells_place T);
       few = omega arith;
       there = omega (arith, tells_place T, tells_size T);
-      room = omega (arith, within ((goal.at.read_column-requires c).After-read_column-arg-1));
+      room = omega (arith, column_within columns c.loop-j.j c.args.head.records (omega arith));
     }
 
 pub loop-j-preserved : goal.loop-j-preserved

@@ -1,13 +1,9 @@
-use borrow.Author.Rules.{rules}
-use Prim.Native.Nat.{◌+◌, ◌*◌, ◌-◌, ◌≤◌}
-use mathlib.Core.Path.{◌≡◌, ◌∙◌}
-use native.Mathlib.Omega.{arith}
+use Prim.Native.Nat.{◌-◌, ◌≤◌}
+use mathlib.Core.Path.{◌≡◌}
 use lib.ListN.{length}
 use Rattle.model.specs.Model.{Run}
-use Rattle.openfile.proofs.WholeOrRefused.{tells_place, tells_size, tells_few}
-use Rattle.table.specs.Table.{Loads, columns, recorded}
-use Rattle.table.proofs.ColumnsApart.{column_within}
-use Rattle.loadrun.proofs.RecordNumbers.{StandAt, told_stand, read_none, read_on}
+use Rattle.table.specs.Table.{Loads, recorded}
+use Rattle.loadrun.proofs.RecordNumbers.{StandAt}
 use Rattle.loadrun.proofs.read.read_table.Given as goal
 
 abbrev pub invariant-loop-j : goal.invariant-loop-j

@@ -1,11 +1,6 @@
-use borrow.Author.Rules.{rules}
 use Prim.Native.Nat.{◌≤◌, ◌+◌, ◌*◌, ◌-◌}
-use mathlib.Core.Path.{◌≡◌, sym, ◌∙◌, ap}
-use mathlib.Core.Bool.{Bool}
-use native.Mathlib.Omega.{arith}
-use Rattle.base.proofs.Loop.{NoneTo, none_yet, none_on, first_hit, first_miss}
-use Rattle.model.specs.declared.record.Record.{Record}
-use Rattle.model.specs.Model.{Job, job_of, same_job}
+use Rattle.base.proofs.Loop.{NoneTo}
+use Rattle.model.specs.Model.{job_of, same_job}
 use Rattle.model.specs.File.{record_at, record_size}
 use Rattle.reader.proofs.search.least_record.Given as goal
 

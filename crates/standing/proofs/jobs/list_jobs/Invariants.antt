@@ -1,6 +1,6 @@
-use Prim.Native.Nat.{◌+◌, ◌-◌, ◌≤◌}
-use borrow.Author.Rules.{rules}
-use Rattle.standing.proofs.JobRows.{Listing, listing_none, fitting, listing_on, listing_all}
+-- The jobs of the first i tasks are there. Assumes nothing.
+use Prim.Native.Nat.{◌-◌}
+use Rattle.standing.proofs.JobRows.{Listing}
 use Rattle.standing.proofs.jobs.list_jobs.Given as goal
 
 abbrev pub invariant-loop-i : goal.invariant-loop-i

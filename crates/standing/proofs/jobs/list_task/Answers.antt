@@ -1,8 +1,8 @@
-use Prim.Native.Nat.{◌-◌}
+-- A turn puts the next job into its row. Assumes nothing.
 use mathlib.Core.Path.{◌≡◌}
 use native.Mathlib.Omega.{arith}
 use borrow.Author.Rules.{rules}
-use Rattle.standing.proofs.JobRows.{Tasked, tasked_none, tasked_on}
+use Rattle.standing.proofs.JobRows.{tasked_none, tasked_on}
 use Rattle.standing.proofs.jobs.list_task.Goals as goal
 
 pub loop-j-init : goal.loop-j-init

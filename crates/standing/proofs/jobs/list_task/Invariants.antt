@@ -1,8 +1,6 @@
+-- The first j jobs of the task are there. Assumes nothing.
 use Prim.Native.Nat.{◌-◌}
-use mathlib.Core.Path.{◌≡◌}
-use native.Mathlib.Omega.{arith}
-use borrow.Author.Rules.{rules}
-use Rattle.standing.proofs.JobRows.{Tasked, tasked_none, tasked_on}
+use Rattle.standing.proofs.JobRows.{Tasked}
 use Rattle.standing.proofs.jobs.list_task.Given as goal
 
 abbrev pub invariant-loop-j : goal.invariant-loop-j

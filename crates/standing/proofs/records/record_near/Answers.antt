@@ -1,8 +1,8 @@
+-- The record at the place that is tried, none, or the least one. Assumes nothing.
 use mathlib.Core.Path.{◌∙◌}
 use native.Mathlib.Omega.{arith}
 use Rattle.reader.proofs.SectionStarts.{least_told}
 use Rattle.standing.proofs.OfJob.{near_is, not_yet}
-use borrow.Author.Rules.{rules}
 use Rattle.standing.proofs.records.record_near.Goals as goal
 
 pub returns-then-is_of : goal.returns-then-is_of

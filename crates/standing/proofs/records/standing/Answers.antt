@@ -1,8 +1,8 @@
+-- A new job, one that has not begun, or the record that is kept. Assumes nothing.
 use mathlib.Core.Path.{sym, ◌∙◌, ap}
 use Rattle.base.specs.Find.{seen}
 use Rattle.model.specs.Carry.{unbegun}
 use Rattle.standing.proofs.OfJob.{new_is, old_is, kept_is}
-use borrow.Author.Rules.{rules}
 use Rattle.standing.proofs.records.standing.Goals as goal
 
 pub returns-in_default : goal.returns-in_default

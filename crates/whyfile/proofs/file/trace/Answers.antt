@@ -1,5 +1,3 @@
-use mathlib.Core.Path.{◌≡◌}
-use borrow.Author.Rules.{rules}
 use Rattle.whyfile.proofs.file.trace.Goals as goal
 
 pub write_chain-requires : goal.write_chain-requires

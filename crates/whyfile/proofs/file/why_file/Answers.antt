@@ -1,7 +1,6 @@
 use mathlib.Core.Path.{sym, ◌∙◌}
 use Rattle.openfile.proofs.WholeOrRefused.{whole_tells, refused_tells}
 use Rattle.whyfile.proofs.EachReason.{says_own}
-use borrow.Author.Rules.{rules}
 use Rattle.whyfile.proofs.file.why_file.Goals as goal
 
 pub why_whole-requires : goal.why_whole-requires
