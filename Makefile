@@ -2,7 +2,7 @@
 # make command         only the command, build/octalmure
 # make install         to BINDIR, LIBDIR, INCLUDEDIR and MANDIR, which are folders of PREFIX (default /usr/local) where not given,
 #                      all of it below DESTDIR if that is given; make uninstall removes the same files
-# make clean           removes build/; what is proved stays in target/
+# make clean           removes build/; the archive stays in target/, and what is proved in the folder out/ of each crate
 #
 # The archive is for x86-64. On another processor a cross compiler makes the command, and tools/x86-64 runs it.
 

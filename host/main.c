@@ -50,18 +50,20 @@ static Wanted take_out(const Word *word, Line *line, Asked *asked) {
     return take_name(line, "-o", *rest != '\0' ? rest : NULL, &asked->out);
 }
 
+static const char neither[] = "this word takes neither --names nor --json; explain does";
+
 /* '--names NAMES' or '--names=NAMES'. */
 static Wanted take_names(const Word *word, Line *line, Asked *asked) {
     const char *option = line->words[line->at], *rest = strchr(option, '=');
     if (!word->names) {
-        return wrong(option, "this word calls no task by its name; explain, page and trace do");
+        return wrong(option, neither);
     }
     return take_name(line, "--names", rest != NULL ? rest + 1 : NULL, &asked->names);
 }
 
 static Wanted take_json(const Word *word, const char *option, Asked *asked) {
     if (!word->json) {
-        return wrong(option, "this word gives no such document; explain does");
+        return wrong(option, word->names ? "this word gives no such document; explain does" : neither);
     }
     if (asked->json) {
         return wrong(option, "given twice");

@@ -3,8 +3,8 @@
 #include <octalmure.h>
 #include <string.h>
 
-static const Word *const words[] = {&check_word,   &carry_word, &show_word,  &say_word,    &why_word,
-                                    &explain_word, &page_word,  &trace_word, &import_word, &export_word};
+static const Word *const words[] = {&check_word, &carry_word,   &show_word,   &say_word,
+                                    &why_word,   &explain_word, &import_word, &export_word};
 enum { WORDS = sizeof words / sizeof words[0] };
 
 static const char scheme[] = "Exit status, of every word: 0 accepted or written; 1 a rule is broken; 3 refused; 2 trouble with\n"
@@ -22,7 +22,7 @@ const Word *find_word(const char *name) {
 static void print_list(FILE *out) {
     fprintf(out, "usage: octalmure WORD FILE ...\n\n"
                  "Checks a recorded run of blocks against the published rules, carries it to a longer horizon, tells\n"
-                 "why its late blocks were late, draws it as a page, and takes and gives its records as a text table.\n\n");
+                 "why its late blocks were late, and takes and gives its records as a text table.\n\n");
     for (size_t i = 0; i < WORDS; i++) {
         fprintf(out, "  %-7s %-30s %s\n", words[i]->name, words[i]->usage, words[i]->summary);
     }

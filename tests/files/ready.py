@@ -27,16 +27,20 @@ def command(room):
 
 
 def stale(program):
-    sources = [ROOT / "crates.txt", *(path for path in (ROOT / "crates").rglob("*") if path.is_file())]
+    """Whether a program is missing, or older than a source. What a crate's folder out/ holds is no source."""
+    paths = (path for part in ("src", "specs", "proofs") for path in (ROOT / "crates").glob(f"*/{part}/**/*") if path.is_file())
+    sources = [ROOT / "crates.txt", *paths]
     return not program.exists() or program.stat().st_mtime < max(path.stat().st_mtime for path in sources)
 
 
 def proved():
     """The words that run each proved program, by its name. One that is missing or older than a source is made first."""
-    programs = [ROOT / "target" / "bin" / name for name in PROVED]
-    if any(stale(program) for program in programs):
-        ask("tools/alone", "rt", "check", *PROVED)
-        for program in programs:
+    for name in PROVED:
+        folder = ROOT / "crates" / name
+        program = folder / "out" / name
+        if stale(program):
+            with open(folder / "stdin", "rb") as given:
+                subprocess.run([ROOT / "tools" / "alone", "rt", "run"], cwd=folder, stdin=given, stdout=subprocess.DEVNULL, check=True)
             program.touch()  # a source that is newer and says the same leaves the program as it was
     return {name: ask("tools/proved", "--words", name) for name in PROVED}
 

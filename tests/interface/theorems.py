@@ -21,7 +21,7 @@ def imports(text):
         if use and use[2]:
             for item in use[2].split(","):
                 name, _, other = item.strip().partition(" as ")
-                found[(other or name).strip("_")] = f"{use[1]}.{name}"
+                found[(other or name).strip("◌")] = f"{use[1]}.{name}"
         elif use:
             found[use[3] or use[1].rpartition(".")[2]] = use[1]
     return found

@@ -9,7 +9,7 @@ import termios
 
 from trial import ROOT, seen, text, told
 
-# what each worked run makes each word end with: check, show, say, explain and trace alike; say and carry to a horizon. A file that is not
+# what each worked run makes each word end with: check, show, say and explain alike; say and carry to a horizon. A file that is not
 # refused is exported, and takes a table, whether its run breaks a rule or not.
 SCHEME = {"c1": (0, 30, 0), "c2": (0, 20, 0), "c4": (0, 30, 0), "c5": (1, 30, 1), "c6": (1, 30, 1), "c7": (1, 30, 1), "c8": (3, 30, 3),
           "c9": (0, 512, 0), "c10": (3, 513, 3), "c11": (0, 1, 0), "beside": (1, 3, 1), "turn": (0, 9, 0), "turned": (0, 9, 0),
@@ -25,14 +25,13 @@ WRONG = ([], ["measure", "c1.run"], [""], ["check"], ["check", "c1.run", "c2.run
          ["why", "c1.run", "0", "-o", "out"], ["explain"], ["explain", "c1.run", "c2.run"], ["explain", "c1.run", "--names"],
          ["explain", "c1.run", "--names", "desk.names", "--names", "desk.names"], ["explain", "c1.run", "--json", "--json"],
          ["explain", "c1.run", "--json=yes"], ["explain", "c1.run", "--name=desk.names"], ["say", "c1.run", "--json"],
-         ["show", "c1.run", "--names", "desk.names"], ["explain", "-", "--names", "-"], ["trace"], ["trace", "c1.run", "c2.run"],
-         ["trace", "c1.run", "--json"], ["trace", "c1.run", "-o"], ["trace", "c1.run", "--names"], ["trace", "-", "--names", "-"])
+         ["show", "c1.run", "--names", "desk.names"], ["explain", "-", "--names", "-"])
 
 
 def scheme(room):
     for name, (checked, horizon, said) in SCHEME.items():
         file = f"{name}.run"
-        for words in (["check", file], ["show", file], ["say", file], ["explain", file], ["trace", file]):
+        for words in (["check", file], ["show", file], ["say", file], ["explain", file]):
             done = room.run(*words)
             yield f"{words}: {seen(done)}", done.returncode == checked and done.stdout and not done.stderr
         done = room.run("say", file, horizon)
@@ -68,7 +67,7 @@ def usage(room):
 def helps(room):
     done = room.run("--help")
     words = re.findall(r"^  (\w+) ", text(done.stdout), re.M)
-    known = {"check", "carry", "show", "say", "why", "explain", "trace", "import", "export"}
+    known = {"check", "carry", "show", "say", "why", "explain", "import", "export"}
     yield f"--help: {seen(done)}", told(done, 0, None, "") and known <= set(words)
     for words_ in (["-h"], ["help"]):
         yield f"{words_} is not --help", room.run(*words_).stdout == done.stdout

@@ -237,8 +237,8 @@ def options(room, place):
     for words, said in ((["explain", "c1.run", "--json", "--json"], "--json: given twice"),
                         (["explain", "c1.run", "--names", "a", "--names=b"], "--names: given twice"),
                         (["explain", "c1.run", "--names"], "--names: the name of the file is missing"),
-                        (["why", "c1.run", "0", "--json"], "--json: this word gives no such document; explain does"),
-                        (["check", "--names=x", "c1.run"], "--names=x: this word calls no task by its name; explain, page and trace do"),
+                        (["why", "c1.run", "0", "--json"], "--json: this word takes neither --names nor --json; explain does"),
+                        (["check", "--names=x", "c1.run"], "--names=x: this word takes neither --names nor --json; explain does"),
                         (["explain", "c1.run", "-o", "out"], "-o: this word writes no file, so it takes no -o"),
                         (["explain", "--", "c1.run", "--json"], "--json: more than this word takes"),
                         (["why", "c1.run", "first"], "first: no record: a whole number, counted from 0, names one")):

@@ -1,4 +1,6 @@
 // The report's line for the bytes that were read, and how many are.
+#![tactic(auto)]
+
 ghost use Rattle.std.specs.Prelude.{◌≡◌, ◌≤◌, length};
 ghost use Rattle.model.specs.Report.{most_read, report};
 ghost use Rattle.text.specs.Lined.{lined};

@@ -1,27 +1,27 @@
 // What is said of a file.
 use checkfile::check_file;
-use libc::STDOUT_FILENO;
 use model::Answer;
 use openfile::{Opened, open_file};
+use std::io;
+use std::io::Write;
 use text::line_of;
 
-pub(crate) fn print_answer(told: Answer) {
+pub(crate) fn print_answer(output: &mut impl Write, told: Answer) -> io::Result<()> {
     let line = line_of(told);
     let text = line.text;
     let size = line.size;
-    io::write_all(STDOUT_FILENO, &text[0..size]);
+    output.write_all(&text[0..size])
 }
 
 // The refusal, or 'fine'.
-pub(crate) fn refusal_case(file: &[u8]) {
+pub(crate) fn refusal_case(output: &mut impl Write, file: &[u8]) -> io::Result<()> {
     let opened = open_file(file);
     let Opened::Refused(number, task) = opened else {
-        io::write_all(STDOUT_FILENO, b"fine\n");
-        return;
+        return output.write_all(b"fine\n");
     };
-    print_answer(Answer::Refused(number, task));
+    print_answer(output, Answer::Refused(number, task))
 }
 
-pub(crate) fn check_case(file: &[u8]) {
-    print_answer(check_file(file));
+pub(crate) fn check_case(output: &mut impl Write, file: &[u8]) -> io::Result<()> {
+    print_answer(output, check_file(file))
 }

@@ -1,4 +1,6 @@
 // A job, shown from its source: a part of the recorded file or of the carried file. Each file is judged once.
+#![tactic(auto)]
+
 ghost use Rattle.std.specs.Prelude.{◌≡◌, List, ℕ, ◌<◌};
 ghost use Rattle.base.specs.Find.{seen};
 ghost use Rattle.model.specs.File.{read};

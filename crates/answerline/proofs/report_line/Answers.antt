@@ -1,7 +1,6 @@
 -- The line of the numbers of the check, which past the first 16,384 bytes sees nothing. Assumes nothing.
 use mathlib.Core.Path.{sym, ◌∙◌, ap}
 use native.Mathlib.Omega.{arith}
-use borrow.Author.Rules.{rules}
 use Rattle.model.specs.Calls.{numbers}
 use Rattle.model.specs.Report.{most_read, line, report}
 use Rattle.model.proofs.Prefix.{check_prefix}

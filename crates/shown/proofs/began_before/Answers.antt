@@ -1,4 +1,3 @@
-use borrow.Author.Rules.{rules}
 use Rattle.shown.proofs.Least.{began_said}
 use Rattle.shown.proofs.began_before.Goals as goal
 

@@ -1,4 +1,3 @@
-use borrow.Author.Rules.{rules}
 use Rattle.shown.proofs.ShownFrom.{carried_at}
 use Rattle.shown.proofs.in_carried.Goals as goal
 

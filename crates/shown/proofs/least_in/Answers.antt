@@ -1,4 +1,3 @@
-use borrow.Author.Rules.{rules}
 use mathlib.Core.Path.{◌∙◌}
 use Rattle.shown.proofs.Least.{least_is}
 use Rattle.shown.proofs.least_in.Goals as goal

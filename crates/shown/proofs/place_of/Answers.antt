@@ -1,4 +1,3 @@
-use borrow.Author.Rules.{rules}
 use Rattle.shown.proofs.ShownFrom.{from_recorded, from_later, from_none}
 use Rattle.shown.proofs.Least.{least_below}
 use Rattle.shown.proofs.place_of.Goals as goal

@@ -21,5 +21,7 @@ returns-then-t-n-eq0 c =
 pub returns : goal.returns
 returns c =
     let put = c.put_row.ensures in
-    let next = c.put_row-2.ensures in
-    (next.long ∙ put.long, λ σ J L e. lent_next L c.requires.1 put e J (omega (arith, c.if-n-next.false)) c.if-t-n-eq0.false c.later-ready.ensures next)
+    let next = c.put_row-2.ensures in (
+      next.long ∙ put.long,
+      λ σ J L e. lent_next L c.requires.1 put e J (omega (arith, c.if-n-next.false)) c.if-t-n-eq0.false c.later-ready.ensures next,
+    )

@@ -31,8 +31,11 @@ pub free_cores-taken-requires : goal.free_cores-taken-requires
 free_cores-taken-requires c =
     let X = c.requires.2 in
     let end = c.column.ensures in
-    let core = c.column-2.ensures in
-    (omega (arith, X.limits.setting.cores), omega (arith, X.limits.setting.cores), record { beside = (end.1 ∙ sym core.1, tt); cores = on_core X end.0 core.0 core.1 })
+    let core = c.column-2.ensures in (
+      omega (arith, X.limits.setting.cores),
+      omega (arith, X.limits.setting.cores),
+      record { beside = (end.1 ∙ sym core.1, tt); cores = on_core X end.0 core.0 core.1 },
+    )
 
 pub loop-left-init : goal.loop-left-init
 loop-left-init c =
@@ -69,7 +72,9 @@ pub overflow_add-e-in-At : goal.overflow_add-e-in-At
 overflow_add-e-in-At c = omega (arith, in_table (reached ((goal.at.overflow_add-e-in-At c).In-At)) (found ((goal.at.overflow_add-e-in-At c).In-At)))
 
 pub take_core-taken-requires : goal.take_core-taken-requires
-take_core-taken-requires c = let R = reached ((goal.at.take_core-taken-requires c).In-At) in ((some_cores R).0, (some_cores R).1, core_free R (found ((goal.at.take_core-taken-requires c).In-At)))
+take_core-taken-requires c =
+    let R = reached ((goal.at.take_core-taken-requires c).In-At) in
+    ((some_cores R).0, (some_cores R).1, core_free R (found ((goal.at.take_core-taken-requires c).In-At)))
 
 pub put_start-requires : goal.put_start-requires
 put_start-requires c = let f = in_table (reached ((goal.at.put_start-requires c).In-At)) (found ((goal.at.put_start-requires c).In-At)) in (f.1, f.0)
@@ -78,7 +83,9 @@ pub loop-left-preserved : goal.loop-left-preserved
 loop-left-preserved c =
     record {
       long = c.put_start.ensures.0 ∙ c.loop-left.invariant.long;
-      reached = λ ρ H' X. reached_on (c.loop-left.invariant.reached ρ H' X) (found ((goal.at.loop-left-preserved c).In-At)) c.take_core-taken.ensures c.put_start.ensures.1;
+      reached = λ ρ H' X.
+          reached_on (c.loop-left.invariant.reached ρ H' X) (found ((goal.at.loop-left-preserved c).In-At))
+          c.take_core-taken.ensures c.put_start.ensures.1;
     }
 
 pub returns : goal.returns

@@ -1,4 +1,5 @@
 use native.Mathlib.Omega.{arith}
+use borrow.Author.Rules.{rules}
 use Rattle.model.specs.Model.{Run}
 use Rattle.openfile.specs.Head.{Tells}
 use Rattle.carrytheory.specs.Allowed.{Allowed}
@@ -7,17 +8,17 @@ use Rattle.carryfile.proofs.file.carry_whole.Goals as goal
 use Rattle.carryfile.proofs.file.carry_whole.Goals.{Else-not-few}
 
 pub returns-then-not-longer : goal.returns-then-not-longer
-returns-then-not-longer c = let (ρ, T) = c.requires in says_9 T _ _ c.may_carry-longer.ensures c.if-not-longer.true-raw
+returns-then-not-longer c = let (ρ, T) = c.requires in says_9 T _ _ c.may_carry-longer.ensures (search rules)
 
 pub returns-then-not-few : goal.returns-then-not-few
 returns-then-not-few c =
     let (ρ, T) = c.requires in
-    says_6 T _ _ c.may_carry-longer.ensures c.if-not-longer.false-raw (c.jobs_by-m.ensures ρ T) c.if-not-few.true-raw
+    says_6 T _ _ c.may_carry-longer.ensures (search rules) (c.jobs_by-m.ensures ρ T) (search rules)
 
 -- neither test refuses
 reaches : (c : Else-not-few) → let a = c.args in (ρ : Run)
     → Tells a.file.now a.head ρ → Allowed ρ a.horizon
-reaches c ρ T = allowed T _ c.may_carry-longer.ensures c.if-not-longer.false-raw (c.jobs_by-m.ensures ρ T) c.if-not-few.false-raw
+reaches c ρ T = allowed T _ c.may_carry-longer.ensures (search rules) (c.jobs_by-m.ensures ρ T) (search rules)
 
 pub overflow_cast-m : goal.overflow_cast-m
 overflow_cast-m c =
