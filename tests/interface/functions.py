@@ -40,10 +40,10 @@ def code(path):
 
 
 def closed(text, at):
-    """The place after the bracket that closes the one at this place."""
+    """The place after the bracket that closes the one at this place. An arrow ends in no bracket."""
     opening, depth = text[at], 0
     for i in range(at, len(text)):
-        depth += (text[i] == opening) - (text[i] == CLOSING[opening])
+        depth += (text[i] == opening) - (text[i] == CLOSING[opening] and text[i - 1 : i + 1] != "->")
         if depth == 0:
             return i + 1
     raise SystemExit(f"a bracket is not closed: {text[at:at + 80]}")

@@ -13,10 +13,12 @@ use std::io::{Read, Write};
 use text::line_of;
 
 // Reads until a space is full or the input ends: how many of its bytes are filled.
+// Kept: three programs have this function. A public function of a library has a theorem that its contract permits one result (tests/once), and what comes in is no argument.
 fn fill_from(input: &mut impl Read, space: &mut [u8]) -> io::Result<usize>
     ensures { IfOk result (λ n. n ≤ length space.new) }
 {
     let mut filled = 0;
+    // Kept: it goes on by as many bytes as a read gives, and counts no index.
     while filled < space.len() {
         let n = input.read(&mut space[filled..])?;
         if n == 0 {

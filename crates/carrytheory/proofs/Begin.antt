@@ -1,8 +1,8 @@
 -- All jobs begin, one after the other, from start to start. Assumes nothing.
+use Rattle.std.specs.Prelude.{None, Some}
 use Prim.Native.Nat.{ℕ, zero, suc, ◌+◌, ◌*◌, ◌^◌, ◌≤◌, ◌<◌}
 use mathlib.Core.Path.{◌≡◌, refl, sym, ◌∙◌, ap}
 use mathlib.Core.List.{List}
-use mathlib.Core.Option.{none, some}
 use native.Mathlib.Omega.{arith}
 use native.Mathlib.Nat.{suc_inj}
 use native.Mathlib.Decide.{ℕ_discrete, dec_le}
@@ -31,10 +31,10 @@ pub record NextStart (t : ℕ) (σ : Run) (M : ℕ) : Type 0 where
   pub u : ℕ
   pub k : ℕ
   pub c : ℕ
-  pub found : next_start σ t ≡ some (u, (k, c))
+  pub found : next_start σ t ≡ Some (u, (k, c))
   pub later : t ≤ u
   pub soon : u ≤ M
-  pub quiet : (v : ℕ) → t ≤ v → v < u → start_at σ v ≡ none
+  pub quiet : (v : ℕ) → t ≤ v → v < u → start_at σ v ≡ None
   pub start : MayStart σ u k c
 
 -- once all is released and ended, of the jobs that wait one can start
@@ -43,7 +43,7 @@ next_start_lem : (t : ℕ) (σ : Run) (M : ℕ) → 1 ≤ σ.setting.cores → t
 unfolding next_start
 next_start_lem t σ M n l m B a h z = go (answers (start_at σ) (instants_from t) t)
   where
-    can : ¬ (start_at σ M ≡ none)
+    can : ¬ (start_at σ M ≡ None)
     can e =
         let (i, g, c, f) = some_ready σ M B a h z in
         let (k, r, x, y, w) = nothing_starts σ M e i g (c, f) 1 (omega arith, n) in

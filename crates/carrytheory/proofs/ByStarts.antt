@@ -1,8 +1,8 @@
 -- The carry from start to start is the carry instant by instant. Assumes nothing.
+use Rattle.std.specs.Prelude.{None, Option, Some}
 use Prim.Native.Nat.{ℕ, zero, suc, ◌^◌, ◌≤◌, ◌<◌}
 use mathlib.Core.Path.{◌≡◌, refl, sym, ◌∙◌, ap}
 use mathlib.Core.Bool.{Bool, true, false}
-use mathlib.Core.Option.{Option, none, some}
 use native.Mathlib.Omega.{arith}
 use Rattle.base.specs.Find.{first_of}
 use Rattle.base.proofs.Find.{first_of_yes, first_of_no}
@@ -19,21 +19,21 @@ pub start_zero : (t : ℕ) (σ : Run) → start_all zero t σ ≡ σ
 unfolding start_all
 start_zero t σ = refl
 
-pub start_some : (m t u k c : ℕ) (σ : Run) → next_start σ t ≡ some (u, (k, c)) → start_all (suc m) t σ ≡ start_all m u (starts σ u k c)
+pub start_some : (m t u k c : ℕ) (σ : Run) → next_start σ t ≡ Some (u, (k, c)) → start_all (suc m) t σ ≡ start_all m u (starts σ u k c)
 unfolding start_all
 start_some m t u k c σ e = rw (e, start_all)
 
-pub start_none : (m t : ℕ) (σ : Run) → next_start σ t ≡ none → start_all m t σ ≡ σ
+pub start_none : (m t : ℕ) (σ : Run) → next_start σ t ≡ None → start_all m t σ ≡ σ
 unfolding start_all
 start_none zero t σ e = refl
 start_none (suc m) t σ e = rw (e, start_all)
 
-instant_none : (m t : ℕ) (σ : Run) → start_at σ t ≡ none → at_instant m t σ ≡ σ
+instant_none : (m t : ℕ) (σ : Run) → start_at σ t ≡ None → at_instant m t σ ≡ σ
 unfolding start_at at_instant
 instant_none zero t σ e = refl
 instant_none (suc m) t σ e = rw (e, at_instant)
 
-instant_some : (m t k c : ℕ) (σ : Run) → start_at σ t ≡ some (k, c) → at_instant (suc m) t σ ≡ at_instant m t (starts σ t k c)
+instant_some : (m t k c : ℕ) (σ : Run) → start_at σ t ≡ Some (k, c) → at_instant (suc m) t σ ≡ at_instant m t (starts σ t k c)
 unfolding start_at at_instant
 instant_some m t k c σ e = rw (e, at_instant)
 
@@ -56,14 +56,14 @@ none_starts t σ e = rw e (start_zero t σ)
 instants_suc : (t : ℕ) → t < 2 ^ 32 → instants_from t ≡ suc (instants_from (suc t))
 instants_suc t l = omega arith
 
-pub starts_here : (t k c : ℕ) (σ : Run) → t < 2 ^ 32 → start_at σ t ≡ some (k, c) → all_start t σ ≡ all_start t (starts σ t k c)
+pub starts_here : (t k c : ℕ) (σ : Run) → t < 2 ^ 32 → start_at σ t ≡ Some (k, c) → all_start t σ ≡ all_start t (starts σ t k c)
 unfolding next_start
 starts_here t k c σ l e =
     let S = start_at_lem σ t k c e in
-    let here : next_start σ t ≡ some (t, (k, c)) = rw (instants_suc t l) (first_of_yes (start_at σ) t (instants_from (suc t)) (k, c) e) in
+    let here : next_start σ t ≡ Some (t, (k, c)) = rw (instants_suc t l) (first_of_yes (start_at σ) t (instants_from (suc t)) (k, c) e) in
     ap (λ m. start_all m t σ) (fewer_then σ t k c (task_of σ k).greatest S) ∙ start_some _ t t k c σ here
 
-pub starts_later : (m t : ℕ) (σ : Run) → t < 2 ^ 32 → start_at σ t ≡ none → start_all m t σ ≡ start_all m (suc t) σ
+pub starts_later : (m t : ℕ) (σ : Run) → t < 2 ^ 32 → start_at σ t ≡ None → start_all m t σ ≡ start_all m (suc t) σ
 unfolding next_start start_all
 starts_later zero t σ l e = refl
 starts_later (suc m) t σ l e =
@@ -78,8 +78,8 @@ at_instant_lem (suc m) t σ l h = go (at_instant_lem m t) (start_at σ t) refl
   where
     go : ((σ : Run) → t < 2 ^ 32 → waiting σ ≤ m → all_start t σ ≡ all_start (suc t) (at_instant m t σ)) → (o : Option (ℕ × ℕ)) → start_at σ t ≡ o
         → all_start t σ ≡ all_start (suc t) (at_instant (suc m) t σ)
-    go ih none e = starts_later (waiting σ) t σ l e ∙ ap (all_start (suc t)) (sym (instant_none (suc m) t σ e))
-    go ih (some (k, c)) e =
+    go ih None e = starts_later (waiting σ) t σ l e ∙ ap (all_start (suc t)) (sym (instant_none (suc m) t σ e))
+    go ih (Some (k, c)) e =
         let S = start_at_lem σ t k c e in
         let w = fewer_then σ t k c (task_of σ k).greatest S in
         starts_here t k c σ l e ∙ ih (starts σ t k c) l (omega arith) ∙ ap (all_start (suc t)) (sym (instant_some m t k c σ e))
@@ -87,7 +87,7 @@ at_instant_lem (suc m) t σ l h = go (at_instant_lem m t) (start_at σ t) refl
 at_each_instant_lem : (n t : ℕ) (σ : Run) → n ≡ instants_from t → at_each_instant n t σ ≡ all_start t σ
 unfolding at_each_instant first_of next_start
 at_each_instant_lem zero t σ e =
-    let over : next_start σ t ≡ none = ap (first_of (start_at σ) t) (sym e) in
+    let over : next_start σ t ≡ None = ap (first_of (start_at σ) t) (sym e) in
     sym (start_none (waiting σ) t σ over)
 at_each_instant_lem (suc n) t σ e = go (at_each_instant_lem n (suc t)) (some_waits σ) refl
   where

@@ -1,11 +1,11 @@
 -- A recorded file and the file that it was carried to. Whichever of the two a job is shown from, the bytes are those that the carried
 -- file alone says of it. Assumes that the recorded file is a list of bytes.
+use Rattle.std.specs.Prelude.{None, Option, Some}
 use Prim.Native.Nat.{ℕ, ◌<◌}
 use mathlib.Core.Path.{◌≡◌, refl, sym, ◌∙◌, ap}
 use mathlib.Core.Logic.{◌↔◌}
 use mathlib.Core.Bool.{Bool, true, false, true≢false}
 use mathlib.Core.List.{List, []}
-use mathlib.Core.Option.{Option, none, some}
 use lib.Dec.{ltb}
 use Rattle.base.proofs.Test.{says_ltb, says_true}
 use Rattle.base.proofs.Searches.{Finds}
@@ -27,8 +27,8 @@ shown_bytes b c (in_carried p) = part_of c p
 
 -- what a file alone says of a job: the bytes of its least record, or none
 abbrev pub said_at : List ℕ → Option ℕ → List ℕ
-said_at c none = []
-said_at c (some k) = part_of c (record_part c k)
+said_at c None = []
+said_at c (Some k) = part_of c (record_part c k)
 
 abbrev pub said_by : List ℕ → Job → List ℕ
 said_by c q = said_at c (least_of (read c) q)
@@ -38,12 +38,12 @@ abbrev pub FromRecorded : Source → Type 0
 FromRecorded s = (p : Part) × (s ≡ in_recorded p)
 
 from_carried : (b c : List ℕ) (o : Option ℕ) → shown_bytes b c (shown_carried c o) ≡ said_at c o
-from_carried b c none = refl
-from_carried b c (some k) = refl
+from_carried b c None = refl
+from_carried b c (Some k) = refl
 
 carried≢recorded : (c : List ℕ) (o : Option ℕ) → ¬ FromRecorded (shown_carried c o)
-carried≢recorded c none (p, e) = let z : true ≡ false = cc in true≢false z
-carried≢recorded c (some k) (p, e) = let z : true ≡ false = cc in true≢false z
+carried≢recorded c None (p, e) = let z : true ≡ false = cc in true≢false z
+carried≢recorded c (Some k) (p, e) = let z : true ≡ false = cc in true≢false z
 
 -- Where a job is shown from, of a recorded file that tells ρ and any other file.
 -- ------------------------------------------------------------------------------
@@ -55,7 +55,7 @@ module _ (b c : List ℕ) (ρ : Run) (reads : read b ≡ whole ρ) (q : Job) whe
     recorded : (k : ℕ) → RecordOf ρ q k → BeginsBeforeH ρ k → shown b c q ≡ in_recorded (record_part b k) → Shows
     elsewhere : shown b c q ≡ shown_carried c (least_of (read c) q) → Shows
 
-  shown_at : (k : ℕ) → place_of ρ q ≡ some k → (t : Bool) → ltb (rec ρ k).start ρ.setting.horizon ≡ t → shown b c q ≡ shown_if t b k other
+  shown_at : (k : ℕ) → place_of ρ q ≡ Some k → (t : Bool) → ltb (rec ρ k).start ρ.setting.horizon ≡ t → shown b c q ≡ shown_if t b k other
   unfolding shown
   shown_at k e t w =
       ap (λ r. shown_of b (least_of r q) other) reads
@@ -84,7 +84,7 @@ module _ (b c : List ℕ) (ρ σ : Run) (B : Bytes b) (C : Bytes c) (reads-b : r
   kept_says : (k : ℕ) → RecordOf ρ q k → BeginsBeforeH ρ k → part_of b (record_part b k) ≡ said_by c q
   kept_says k (h, e) l =
       let (j, m, s) = keeps k h l in
-      let o : least_of (read c) q ≡ some j = rw reads-c (least_is σ J j q (m, ap job_of s ∙ e)) in
+      let o : least_of (read c) q ≡ Some j = rw reads-c (least_is σ J j q (m, ap job_of s ∙ e)) in
       record_bytes b B ρ reads-b k h
       ∙ ap (λ x. bytes_of (record_numbers x)) (sym s)
       ∙ sym (record_bytes c C σ reads-c j m)

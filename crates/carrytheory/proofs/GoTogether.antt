@@ -1,7 +1,7 @@
 -- From instant t up to H' a run and a longer one go together. Assumes nothing.
+use Rattle.std.specs.Prelude.{None, Some}
 use Prim.Native.Nat.{ℕ, zero, suc, ◌+◌, ◌-◌, ◌^◌, ◌≤◌, ◌<◌}
 use mathlib.Core.Path.{◌≡◌, refl, ◌∙◌, ap}
-use mathlib.Core.Option.{none, some}
 use native.Mathlib.Omega.{arith}
 use native.Mathlib.Decide.{ℕ_discrete, dec_lt}
 use Rattle.model.specs.declared.record.Record.{Record}
@@ -55,7 +55,7 @@ module _ (H' : ℕ) where
         }
 
     -- nothing starts at t
-    quietly : t < 2 ^ 32 → start_at σ t ≡ none → start_at τ t ≡ none → Reached (suc t) σ τ → Reached t σ τ
+    quietly : t < 2 ^ 32 → start_at σ t ≡ None → start_at τ t ≡ None → Reached (suc t) σ τ → Reached t σ τ
     quietly l e d R =
         record {
           shorter = R.shorter;
@@ -69,7 +69,7 @@ module _ (H' : ℕ) where
         }
 
     -- the same job starts in both
-    by_a_start : t < 2 ^ 32 → (k j c : ℕ) → start_at σ t ≡ some (k, c) → start_at τ t ≡ some (j, c) → Reached t (starts σ t k c) (starts τ t j c)
+    by_a_start : t < 2 ^ 32 → (k j c : ℕ) → start_at σ t ≡ Some (k, c) → start_at τ t ≡ Some (j, c) → Reached t (starts σ t k c) (starts τ t j c)
         → Reached t σ τ
     by_a_start l k j c e d R =
         record {

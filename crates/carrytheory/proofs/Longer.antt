@@ -1,9 +1,9 @@
 -- A run that is longer than another only by jobs that arrive at H' or later: at each instant below H' the same job starts in both, on
 -- the same core. Assumes nothing.
+use Rattle.std.specs.Prelude.{None, Option, Some}
 use Prim.Native.Nat.{ℕ, ◌+◌, ◌≤◌, ◌<◌}
 use mathlib.Core.Path.{◌≡◌, refl, sym, subst, ◌∙◌, ap}
 use mathlib.Core.Bool.{not}
-use mathlib.Core.Option.{Option, none, some}
 use native.Mathlib.Omega.{arith}
 use native.Mathlib.Decide.{ℕ_discrete}
 use Rattle.base.specs.Find.{first}
@@ -70,12 +70,12 @@ module _ (H' : ℕ) (σ τ : Run) where
 
   -- what starts at t in both
   pub data Together (t : ℕ) : Type 0 where
-    nothing : start_at σ t ≡ none → start_at τ t ≡ none → Together t
-    one : (k j c : ℕ) → start_at σ t ≡ some (k, c) → start_at τ t ≡ some (j, c) → rec τ j ≡ rec σ k → Together t
+    nothing : start_at σ t ≡ None → start_at τ t ≡ None → Together t
+    one : (k j c : ℕ) → start_at σ t ≡ Some (k, c) → start_at τ t ≡ Some (j, c) → rec τ j ≡ rec σ k → Together t
 
   data NextTogether (t : ℕ) : Type 0 where
-    no_next : next σ t ≡ none → next τ t ≡ none → NextTogether t
-    a_next : (k j : ℕ) → next σ t ≡ some k → next τ t ≡ some j → rec τ j ≡ rec σ k → NextTogether t
+    no_next : next σ t ≡ None → next τ t ≡ None → NextTogether t
+    a_next : (k j : ℕ) → next σ t ≡ Some k → next τ t ≡ Some j → rec τ j ≡ rec σ k → NextTogether t
 
 -- What starts below H'
 -- --------------------
@@ -136,8 +136,8 @@ module _ (H' : ℕ) (σ τ : Run) (X : Longer H' σ τ) (t : ℕ) (below : t < H
     where
       go : NextTogether H' σ τ t → (o : Option ℕ) → idle_core σ t ≡ o → Together H' σ τ t
       go (no_next e d) o q = nothing (ap (λ x. both x (idle_core σ t)) e) (ap (λ x. both x (idle_core τ t)) d)
-      go (a_next k j e d s) none q = nothing (λ κ. both (e κ) (q κ)) (λ κ. both (d κ) ((same_idle_core ∙ q) κ))
-      go (a_next k j e d s) (some c) q = one k j c (λ κ. both (e κ) (q κ)) (λ κ. both (d κ) ((same_idle_core ∙ q) κ)) s
+      go (a_next k j e d s) None q = nothing (λ κ. both (e κ) (q κ)) (λ κ. both (d κ) ((same_idle_core ∙ q) κ))
+      go (a_next k j e d s) (Some c) q = one k j c (λ κ. both (e κ) (q κ)) (λ κ. both (d κ) ((same_idle_core ∙ q) κ)) s
 
 -- A start keeps it so
 -- -------------------

@@ -1,9 +1,9 @@
 -- Which job may start: one that can and that none outranks, on a core that is free. The job that starts next in a carry is the first of
 -- these in the order of rank, task and job; there is one if any can start. Assumes nothing.
+use Rattle.std.specs.Prelude.{None, Option, Some}
 use Prim.Native.Nat.{ℕ, zero, suc, ◌+◌, ◌≤◌, ◌<◌}
 use mathlib.Core.Path.{◌≡◌, refl, sym, ◌∙◌, ap}
 use mathlib.Core.Logic.{◌⊎◌, inl, inr, ◌↔◌}
-use mathlib.Core.Option.{Option, none, some}
 use native.Mathlib.Omega.{arith}
 use native.Mathlib.Decide.{dec_le}
 use Rattle.base.specs.First.{Lex}
@@ -117,11 +117,11 @@ module _ (σ : Run) where
       go (nobody f) = absurd (f a h c)
       go (best k l d f) = (k, record { range = l; can = d; first = f })
 
-  pub next_is : (t k : ℕ) → next σ t ≡ some k → IsNext t k
+  pub next_is : (t k : ℕ) → next σ t ≡ Some k → IsNext t k
   next_is t k e = ((finds_some (IsNext t) (next σ t) (next_finds t) total_number k).0 e).here
 
   -- where no job has two records, k is found exactly if it is the next
-  pub next_iff : ((a b : ℕ) → IsRecord σ a → IsRecord σ b → job_of (rec σ a) ≡ job_of (rec σ b) → a ≡ b) → (t k : ℕ) → (next σ t ≡ some k) ↔ IsNext t k
+  pub next_iff : ((a b : ℕ) → IsRecord σ a → IsRecord σ b → job_of (rec σ a) ≡ job_of (rec σ b) → a ≡ b) → (t k : ℕ) → (next σ t ≡ Some k) ↔ IsNext t k
   next_iff one t k = (next_is t k, back (next_finds t))
     where
       same : (j : ℕ) → IsNext t j → IsNext t k → GoesBefore j k ⊎ ((key j ≡ key k) ⊎ GoesBefore k j) → j ≡ k
@@ -129,9 +129,9 @@ module _ (σ : Run) where
       same j J K (inr (inl e)) = one j k J.range K.range (ap (λ x. x.1) e)
       same j J K (inr (inr b)) = absurd (J.first k K.range K.can b)
 
-      back : Finds ◌<◌ (IsNext t) (next σ t) → IsNext t k → next σ t ≡ some k
+      back : Finds ◌<◌ (IsNext t) (next σ t) → IsNext t k → next σ t ≡ Some k
       back (Finds.none_passes e f) K = absurd (f k K)
-      back (Finds.passes j e F) K = e ∙ ap some (same j F.here K (total_lex (total_lex total_number) (key j) (key k)))
+      back (Finds.passes j e F) K = e ∙ ap Some (same j F.here K (total_lex (total_lex total_number) (key j) (key k)))
 
   -- What may start at t
   -- -------------------
@@ -168,25 +168,25 @@ module _ (σ : Run) where
       go j h c (yes l) = l
       go j h c (no l) = absurd (N.first j h c (inl (omega (arith, l))))
 
-  pub start_at_lem : (t k c : ℕ) → start_at σ t ≡ some (k, c) → MayStart t k c
+  pub start_at_lem : (t k c : ℕ) → start_at σ t ≡ Some (k, c) → MayStart t k c
   unfolding start_at
   start_at_lem t k c e = go (next σ t) (idle_core σ t) (next_finds t) (idle_core_finds σ t) e
     where
-      go : (o p : Option ℕ) → Finds ◌<◌ (IsNext t) o → Finds ◌<◌ (λ d. IsCore σ d × ¬ Busy σ d t) p → both o p ≡ some (k, c) → MayStart t k c
-      go none p F G e = absurd (some≢none (sym e))
-      go (some j) none F G e = absurd (some≢none (sym e))
-      go (some j) (some d) F G e =
+      go : (o p : Option ℕ) → Finds ◌<◌ (IsNext t) o → Finds ◌<◌ (λ d. IsCore σ d × ¬ Busy σ d t) p → both o p ≡ Some (k, c) → MayStart t k c
+      go None p F G e = absurd (some≢none (sym e))
+      go (Some j) None F G e = absurd (some≢none (sym e))
+      go (Some j) (Some d) F G e =
           let q : ◌≡◌ {A = ℕ × ℕ} (j, d) (k, c) = cc in
-          let f : some j ≡ some k = ap (λ x. some x.0) q in
-          let g : some d ≡ some c = ap (λ x. some x.1) q in
+          let f : Some j ≡ Some k = ap (λ x. Some x.0) q in
+          let g : Some d ≡ Some c = ap (λ x. Some x.1) q in
           let D = ((finds_some _ _ G total_number c).0 g).here in
           record { job = next_best t k ((finds_some _ _ F total_number k).0 f).here; core = D.0; free = D.1 }
 
-  pub nothing_starts : (t : ℕ) → start_at σ t ≡ none → NoneIdles t
+  pub nothing_starts : (t : ℕ) → start_at σ t ≡ None → NoneIdles t
   unfolding start_at
   nothing_starts t e a h w c i = go (next σ t) (idle_core σ t) (next_finds t) (idle_core_finds σ t) e
     where
-      go : (o p : Option ℕ) → Finds ◌<◌ (IsNext t) o → Finds ◌<◌ (λ d. IsCore σ d × ¬ Busy σ d t) p → both o p ≡ none → Busy σ c t
-      go none p F G e = let (k, N) = some_next t a h w in absurd ((finds_none _ _ F).0 refl k N)
-      go (some k) none F G e = stable (says_busy σ c t) (λ b. (finds_none _ _ G).0 refl c (i, b))
-      go (some k) (some d) F G e = absurd (some≢none e)
+      go : (o p : Option ℕ) → Finds ◌<◌ (IsNext t) o → Finds ◌<◌ (λ d. IsCore σ d × ¬ Busy σ d t) p → both o p ≡ None → Busy σ c t
+      go None p F G e = let (k, N) = some_next t a h w in absurd ((finds_none _ _ F).0 refl k N)
+      go (Some k) None F G e = stable (says_busy σ c t) (λ b. (finds_none _ _ G).0 refl c (i, b))
+      go (Some k) (Some d) F G e = absurd (some≢none e)

@@ -1,9 +1,9 @@
 -- The next instant at which a job starts, found without looking at each: before it no job that waits is ready, or no core is free.
 -- Assumes nothing.
+use Rattle.std.specs.Prelude.{None, Some}
 use Prim.Native.Nat.{ℕ, suc, ◌+◌, ◌^◌, ◌≤◌, ◌<◌, max}
 use mathlib.Core.Path.{◌≡◌, sym, ◌∙◌}
 use mathlib.Core.Logic.{◌⊎◌, inl, inr}
-use mathlib.Core.Option.{none, some}
 use native.Mathlib.Omega.{arith}
 use native.Mathlib.Decide.{dec_le}
 use Rattle.base.proofs.Find.{Answers, answers, some≢none}
@@ -53,9 +53,9 @@ module _ (σ₀ : Run) (H w : ℕ) {latest : ℕ} (m t : ℕ) (σ : Run) (G : Go
   ready_fits k h = omega (arith, ready_soon k h, G.fits, G.four_bytes)
 
   -- Job k starts at u on core c, and no job that waits, and that can once it is ready, is ready sooner: the carry goes on from there.
-  module _ (u k c : ℕ) (start : start_at σ u ≡ some (k, c)) (now : max (max t f) (ready σ k) ≡ u)
+  module _ (u k c : ℕ) (start : start_at σ u ≡ Some (k, c)) (now : max (max t f) (ready σ k) ≡ u)
       (least : (j : ℕ) → IsRecord σ j → (rec σ j).core ≡ 0 → BegunBefore σ j → u ≤ max (max t f) (ready σ j)) where
-    no_sooner : (v j d : ℕ) → t ≤ v → start_at σ v ≡ some (j, d) → u ≤ v
+    no_sooner : (v j d : ℕ) → t ≤ v → start_at σ v ≡ Some (j, d) → u ≤ v
     no_sooner v j d l e =
         let S = start_at_lem σ v j d e in
         let R = S.job.can.1 in
@@ -64,11 +64,11 @@ module _ (σ₀ : Run) (H w : ℕ) {latest : ℕ} (m t : ℕ) (σ : Run) (G : Go
     soon : u ≤ G.by
     soon = rw now at (ready_soon k (start_at_lem σ u k c start).job.range)
 
-    next_there : (next_start σ t ≡ some (u, (k, c))) × ((v : ℕ) → t ≤ v → v < u → start_at σ v ≡ none)
+    next_there : (next_start σ t ≡ Some (u, (k, c))) × ((v : ℕ) → t ≤ v → v < u → start_at σ v ≡ None)
     unfolding next_start
     next_there = go (answers (start_at σ) (instants_from t) t)
       where
-        go : Answers (start_at σ) t (instants_from t) → (next_start σ t ≡ some (u, (k, c))) × ((v : ℕ) → t ≤ v → v < u → start_at σ v ≡ none)
+        go : Answers (start_at σ) t (instants_from t) → (next_start σ t ≡ Some (u, (k, c))) × ((v : ℕ) → t ≤ v → v < u → start_at σ v ≡ None)
         go (Answers.nothing e g) = absurd (some≢none (sym start ∙ g u (omega arith) (omega (arith, soon, G.fits, G.four_bytes))))
         go (Answers.finds v (j, d) e a b r g) = (e ∙ cc same, λ z p q. g z p (omega (arith, same)))
           where

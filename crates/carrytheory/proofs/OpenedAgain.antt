@@ -1,8 +1,8 @@
 -- A carried run, opened to be carried on: what stands at its horizon is what stood there while it was carried. Assumes nothing.
+use Rattle.std.specs.Prelude.{None}
 use Prim.Native.Nat.{ℕ, suc, ◌≤◌, ◌<◌}
 use mathlib.Core.Path.{◌≡◌, refl, sym, subst, ◌∙◌, ap}
 use mathlib.Core.List.{List, [], ◌∷◌, map}
-use mathlib.Core.Option.{none}
 use native.Mathlib.Omega.{arith}
 use lib.Dec.{ltb}
 use lib.ListN.{length, get_or}
@@ -33,10 +33,10 @@ module _ (χ σ τ : Run) (J : Jobs χ) (good : Good χ.tasks) (all_begun : (k :
   abbrev H : ℕ
   H = χ.setting.horizon
 
-  not_placed : (q : Job) → H ≤ arrival (task χ.tasks q.0) q.1 → place_of χ q ≡ none
+  not_placed : (q : Job) → H ≤ arrival (task χ.tasks q.0) q.1 → place_of χ q ≡ None
   not_placed q l = go (place_finds χ q)
     where
-      go : Finds ◌<◌ (RecordOf χ q) (place_of χ q) → place_of χ q ≡ none
+      go : Finds ◌<◌ (RecordOf χ q) (place_of χ q) → place_of χ q ≡ None
       go (Finds.none_passes e f) = e
       go (Finds.passes p e P) =
           let (h, s) = P.here in

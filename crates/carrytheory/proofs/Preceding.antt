@@ -1,8 +1,8 @@
 -- Its task's preceding job: which record that is, for any list of records and where rule 1 holds. Assumes nothing.
+use Rattle.std.specs.Prelude.{None, Some}
 use Prim.Native.Nat.{ℕ, zero, suc, ◌≤◌, ◌<◌}
 use mathlib.Core.Path.{◌≡◌, refl, sym, ◌∙◌, ap}
 use mathlib.Core.Logic.{inl, inr}
-use mathlib.Core.Option.{none, some}
 use native.Mathlib.Omega.{arith}
 use native.Mathlib.Decide.{dec_lt}
 use lib.ListN.{length}
@@ -29,12 +29,12 @@ module _ (ρ : Run) where
       (first_finds _ _ (λ k. says_same_job (job_of (rec ρ k)) q) 0 (size ρ))
 
 -- the one record of a job is its least
-pub least_is : (ρ : Run) → Jobs ρ → (k : ℕ) (q : Job) → RecordOf ρ q k → place_of ρ q ≡ some k
+pub least_is : (ρ : Run) → Jobs ρ → (k : ℕ) (q : Job) → RecordOf ρ q k → place_of ρ q ≡ Some k
 least_is ρ J k q (h, e) = go (place_finds ρ q)
   where
-    go : Finds ◌<◌ (RecordOf ρ q) (place_of ρ q) → place_of ρ q ≡ some k
+    go : Finds ◌<◌ (RecordOf ρ q) (place_of ρ q) → place_of ρ q ≡ Some k
     go (Finds.none_passes z f) = absurd (f k (h, e))
-    go (Finds.passes p z F) = z ∙ ap some (one_record ρ J p k F.here.0 h (F.here.1 ∙ sym e))
+    go (Finds.passes p z F) = z ∙ ap Some (one_record ρ J p k F.here.0 h (F.here.1 ∙ sym e))
 
 -- The job before, of any records
 -- ------------------------------
@@ -46,18 +46,18 @@ pub record JustBefore (σ : Run) (p k : ℕ) : Type 0 where
   pub one_less : suc (rec σ p).job ≡ (rec σ k).job
 
 module _ (σ : Run) (k : ℕ) where
-  pub preceding_is : (p : ℕ) → preceding σ k ≡ some p → JustBefore σ p k
+  pub preceding_is : (p : ℕ) → preceding σ k ≡ Some p → JustBefore σ p k
   unfolding preceding
   preceding_is p e = go (rec σ k).job refl e
     where
-      go : (j : ℕ) → (rec σ k).job ≡ j → job_before σ (rec σ k).task j ≡ some p → JustBefore σ p k
+      go : (j : ℕ) → (rec σ k).job ≡ j → job_before σ (rec σ k).task j ≡ Some p → JustBefore σ p k
       go zero z q = absurd (some≢none (sym q))
       go (suc j) z q =
           let (h, w) = ((finds_some _ _ (place_finds σ ((rec σ k).task, j)) total_number p).0 q).here in
           let y : (rec σ p).job ≡ j = ap (λ x. x.1) w in
           record { range = h; same_task = ap (λ x. x.0) w; one_less = ap suc y ∙ sym z }
 
-  pub first_alone : (rec σ k).job ≡ 0 → preceding σ k ≡ none
+  pub first_alone : (rec σ k).job ≡ 0 → preceding σ k ≡ None
   unfolding preceding
   first_alone e = ap (job_before σ (rec σ k).task) e
 
@@ -74,7 +74,7 @@ module _ (ρ σ : Run) (count : length ρ.records ≡ length σ.records) (job : 
 -- Where rule 1 holds it is the record before
 -- ------------------------------------------
 module _ (σ : Run) (J : Jobs σ) where
-  pub preceding_only : (p k : ℕ) → JustBefore σ p k → preceding σ k ≡ some p
+  pub preceding_only : (p k : ℕ) → JustBefore σ p k → preceding σ k ≡ Some p
   unfolding preceding
   preceding_only p k B =
       ap (job_before σ (rec σ k).task) (sym B.one_less)
@@ -130,20 +130,20 @@ module _ (σ : Run) (J : Jobs σ) where
   pub not_first : (k : ℕ) → IsRecord σ k → 1 ≤ (rec σ k).job → 1 ≤ k
   not_first k h l = let (p, B) = has_before k h l in omega (arith, just_before p k h B)
 
-  pub record_before : (k p : ℕ) → IsRecord σ k → 1 ≤ (rec σ k).job → suc p ≡ k → preceding σ k ≡ some p
+  pub record_before : (k p : ℕ) → IsRecord σ k → 1 ≤ (rec σ k).job → suc p ≡ k → preceding σ k ≡ Some p
   record_before k p h l e =
       let (x, B) = has_before k h l in
       let z : x ≡ p = omega (arith, just_before x k h B) in
-      preceding_only x k B ∙ ap some z
+      preceding_only x k B ∙ ap Some z
 
   -- and what precedes is the record before
-  pub before_record : (k p : ℕ) → IsRecord σ k → preceding σ k ≡ some p → suc p ≡ k
+  pub before_record : (k p : ℕ) → IsRecord σ k → preceding σ k ≡ Some p → suc p ≡ k
   before_record k p h e = just_before p k h (preceding_is σ k p e)
 
 -- Of one job, in two runs in which rule 1 holds, the same job precedes.
 pub data BothAfter (ρ : Run) (a : ℕ) (σ : Run) (b : ℕ) : Type 0 where
-  no_job : preceding ρ a ≡ none → preceding σ b ≡ none → BothAfter ρ a σ b
-  one_job : (p q : ℕ) → preceding ρ a ≡ some p → preceding σ b ≡ some q → IsRecord ρ p → IsRecord σ q → job_of (rec ρ p) ≡ job_of (rec σ q)
+  no_job : preceding ρ a ≡ None → preceding σ b ≡ None → BothAfter ρ a σ b
+  one_job : (p q : ℕ) → preceding ρ a ≡ Some p → preceding σ b ≡ Some q → IsRecord ρ p → IsRecord σ q → job_of (rec ρ p) ≡ job_of (rec σ q)
       → BothAfter ρ a σ b
 
 module _ (ρ σ : Run) (J : Jobs ρ) (K : Jobs σ) (a b : ℕ) (h : IsRecord ρ a) (l : IsRecord σ b) (job : job_of (rec ρ a) ≡ job_of (rec σ b)) where

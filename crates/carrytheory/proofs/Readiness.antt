@@ -1,9 +1,9 @@
 -- When a job is ready: what that depends on, in any run and while it is carried. Assumes nothing.
+use Rattle.std.specs.Prelude.{None, Option, Some}
 use Prim.Native.Nat.{ℕ, zero, suc, ◌-◌, ◌≤◌, max}
 use mathlib.Core.Path.{◌≡◌, refl, sym, ◌∙◌, ap}
 use mathlib.Core.Logic.{◌⊎◌, inl, inr, ◌↔◌}
 use mathlib.Core.Bool.{true≢false}
-use mathlib.Core.Option.{Option, none, some}
 use native.Mathlib.Omega.{arith}
 use native.Mathlib.Decide.{dec_le}
 use lib.Dec.{leb}
@@ -28,18 +28,18 @@ module _ (σ : Run) (k : ℕ) where
   pub release_ready : (rec σ k).release ≤ ready σ k
   release_ready = omega (arith, ready_is)
 
-  end_alone : preceding σ k ≡ none → end_before σ k ≡ 0
+  end_alone : preceding σ k ≡ None → end_before σ k ≡ 0
   unfolding end_before
   end_alone e = ap (end_if σ) e
 
-  pub ready_alone : preceding σ k ≡ none → ready σ k ≡ (rec σ k).release
+  pub ready_alone : preceding σ k ≡ None → ready σ k ≡ (rec σ k).release
   ready_alone e = omega (arith, ready_is, end_alone e)
 
-  pub end_after : (p : ℕ) → preceding σ k ≡ some p → end_before σ k ≡ (rec σ p).end
+  pub end_after : (p : ℕ) → preceding σ k ≡ Some p → end_before σ k ≡ (rec σ p).end
   unfolding end_before
   end_after p e = ap (end_if σ) e
 
-  pub ready_after : (p : ℕ) → preceding σ k ≡ some p → ready σ k ≡ max (rec σ k).release (rec σ p).end
+  pub ready_after : (p : ℕ) → preceding σ k ≡ Some p → ready σ k ≡ max (rec σ k).release (rec σ p).end
   ready_after p e = omega (arith, ready_is, end_after p e)
 
   -- where a job does not start before its release, it is in turn exactly if it does not start before it is ready
@@ -51,8 +51,8 @@ module _ (σ : Run) (k : ℕ) where
 -- -------------------
 module _ (σ : Run) where
   says_begun : (k : ℕ) (o : Option ℕ) → preceding σ k ≡ o → Says (begun_if σ o) (BegunBefore σ k)
-  says_begun k none e = record { sound = λ q p w. absurd (some≢none (sym w ∙ e)); refutes = λ q. absurd (true≢false q) }
-  says_begun k (some p) e =
+  says_begun k None e = record { sound = λ q p w. absurd (some≢none (sym w ∙ e)); refutes = λ q. absurd (true≢false q) }
+  says_begun k (Some p) e =
       says_map
       (λ f x w. let z : p ≡ x = cc in rw z at (positive p f))
       (λ f z. let b = f p e in omega arith)
@@ -66,10 +66,10 @@ module _ (σ : Run) where
       says_map (λ w. record { begun_before = w.0; instant = w.1 }) (λ R. (R.begun_before, R.instant))
       (says_and (says_begun k (preceding σ k) refl) (says_leb _ _))
 
-  pub nothing_before : (k : ℕ) → preceding σ k ≡ none → BegunBefore σ k
+  pub nothing_before : (k : ℕ) → preceding σ k ≡ None → BegunBefore σ k
   nothing_before k e p w = absurd (some≢none (sym w ∙ e))
 
-  pub begun_before_one : (k p : ℕ) → preceding σ k ≡ some p → Begun σ p → BegunBefore σ k
+  pub begun_before_one : (k p : ℕ) → preceding σ k ≡ Some p → Begun σ p → BegunBefore σ k
   begun_before_one k p e b x w = let z : p ≡ x = cc in rw z at b
 
   -- where every job has begun, a job is ready by each instant from its ready instant on
@@ -81,7 +81,7 @@ module _ (σ : Run) (J : Jobs σ) (k t : ℕ) (h : IsRecord σ k) where
   abbrev pub ByRecord : Type 0
   ByRecord = ((rec σ k).release ≤ t) × (((rec σ k).job ≡ 0) ⊎ (Begun σ (k - 1) × ((rec σ (k - 1)).end ≤ t)))
 
-  before : 1 ≤ (rec σ k).job → preceding σ k ≡ some (k - 1)
+  before : 1 ≤ (rec σ k).job → preceding σ k ≡ Some (k - 1)
   before l = let n = not_first σ J k h l in record_before σ J k (k - 1) h l (omega arith)
 
   by_record : ReadyBy σ k t → ByRecord
@@ -112,8 +112,8 @@ module _ (σ : Run) (J : Jobs σ) (k t : ℕ) (h : IsRecord σ k) where
 -- Before two records the same stands
 -- ----------------------------------
 pub data SameBefore (ρ : Run) (a : ℕ) (σ : Run) (b : ℕ) : Type 0 where
-  no_job : preceding ρ a ≡ none → preceding σ b ≡ none → SameBefore ρ a σ b
-  one_job : (p q : ℕ) → preceding ρ a ≡ some p → preceding σ b ≡ some q → rec ρ p ≡ rec σ q → SameBefore ρ a σ b
+  no_job : preceding ρ a ≡ None → preceding σ b ≡ None → SameBefore ρ a σ b
+  one_job : (p q : ℕ) → preceding ρ a ≡ Some p → preceding σ b ≡ Some q → rec ρ p ≡ rec σ q → SameBefore ρ a σ b
 
 pub same_back : {ρ σ : Run} {a b : ℕ} → SameBefore ρ a σ b → SameBefore σ b ρ a
 same_back (no_job d e) = no_job e d
@@ -127,8 +127,8 @@ same_records ρ σ n e k = go (preceding ρ k) refl
     same = sym (same_preceding ρ σ n (λ k. ap job_of (e k)) k)
 
     go : (o : Option ℕ) → preceding ρ k ≡ o → SameBefore ρ k σ k
-    go none d = no_job d (same ∙ d)
-    go (some p) d = one_job p p d (same ∙ d) (e p)
+    go None d = no_job d (same ∙ d)
+    go (Some p) d = one_job p p d (same ∙ d) (e p)
 
 pub same_end : {ρ σ : Run} {a b : ℕ} → SameBefore ρ a σ b → end_before ρ a ≡ end_before σ b
 same_end {ρ} {σ} {a} {b} (no_job d e) = end_alone ρ a d ∙ sym (end_alone σ b e)
@@ -157,8 +157,8 @@ module _ (σ : Run) where
   ready_by_lem M B k h = go (preceding σ k) refl
     where
       go : (o : Option ℕ) → preceding σ k ≡ o → ready σ k ≤ M
-      go none e = omega (arith, ready_alone σ k e, B k h)
-      go (some p) e = omega (arith, ready_after σ k p e, B k h, B p (preceding_is σ k p e).range)
+      go None e = omega (arith, ready_alone σ k e, B k h)
+      go (Some p) e = omega (arith, ready_after σ k p e, B k h, B p (preceding_is σ k p e).range)
 
   -- of the jobs that have not begun, one has none such before it: the least of its task
   least_waits : (j a : ℕ) → (rec σ a).job ≡ j → IsRecord σ a → (rec σ a).core ≡ 0 → (k : ℕ) × IsRecord σ k × ((rec σ k).core ≡ 0) × BegunBefore σ k
@@ -167,8 +167,8 @@ module _ (σ : Run) where
     where
       go : ((a : ℕ) → (rec σ a).job ≡ j → IsRecord σ a → (rec σ a).core ≡ 0 → (k : ℕ) × IsRecord σ k × ((rec σ k).core ≡ 0) × BegunBefore σ k)
           → (o : Option ℕ) → preceding σ a ≡ o → (k : ℕ) × IsRecord σ k × ((rec σ k).core ≡ 0) × BegunBefore σ k
-      go ih none e = (a, h, z, nothing_before σ a e)
-      go ih (some p) e = at (dec_le 1 (rec σ p).core)
+      go ih None e = (a, h, z, nothing_before σ a e)
+      go ih (Some p) e = at (dec_le 1 (rec σ p).core)
         where
           at : Dec (Begun σ p) → (k : ℕ) × IsRecord σ k × ((rec σ k).core ≡ 0) × BegunBefore σ k
           at (yes b) = (a, h, z, begun_before_one σ a p e b)

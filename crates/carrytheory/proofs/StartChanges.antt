@@ -1,7 +1,7 @@
 -- What a start changes: of one record its start, end and core, and when the job after it is ready. Assumes nothing.
+use Rattle.std.specs.Prelude.{None, Option, Some}
 use Prim.Native.Nat.{ℕ, ◌+◌, ◌≤◌, max}
 use mathlib.Core.Path.{◌≡◌, refl, sym, ◌∙◌, ap}
-use mathlib.Core.Option.{Option, none, some}
 use native.Mathlib.Omega.{arith}
 use native.Mathlib.Decide.{ℕ_discrete}
 use lib.ListN.{length, length-set}
@@ -62,18 +62,18 @@ module _ (σ : Run) (u k c l : ℕ) where
     preceding_stays = same_preceding σ' σ as_many job_stays
 
     -- before every job but the next of its task the same stands
-    same_before : (a : ℕ) → ¬ (preceding σ a ≡ some k) → SameBefore σ a σ' a
+    same_before : (a : ℕ) → ¬ (preceding σ a ≡ Some k) → SameBefore σ a σ' a
     same_before a f = go (preceding σ a) refl
       where
         go : (o : Option ℕ) → preceding σ a ≡ o → SameBefore σ a σ' a
-        go none e = no_job e (preceding_stays a ∙ e)
-        go (some p) e = one_job p p e (preceding_stays a ∙ e) (sym (elsewhere p (λ z. f (e ∙ ap some z))))
+        go None e = no_job e (preceding_stays a ∙ e)
+        go (Some p) e = one_job p p e (preceding_stays a ∙ e) (sym (elsewhere p (λ z. f (e ∙ ap Some z))))
 
-    pub ready_stays : (a : ℕ) → ¬ (preceding σ a ≡ some k) → ready (starts_for σ u k c l) a ≡ ready σ a
+    pub ready_stays : (a : ℕ) → ¬ (preceding σ a ≡ Some k) → ready (starts_for σ u k c l) a ≡ ready σ a
     ready_stays a f = sym (same_ready σ σ' a a (sym (release_stays a)) (same_before a f))
 
     -- the next of its task is not ready while the job runs
-    pub ready_next : (a : ℕ) → preceding σ a ≡ some k → ready (starts_for σ u k c l) a ≡ max (rec σ a).release (u + l)
+    pub ready_next : (a : ℕ) → preceding σ a ≡ Some k → ready (starts_for σ u k c l) a ≡ max (rec σ a).release (u + l)
     ready_next a e =
         ready_after σ' a k (preceding_stays a ∙ e) ∙ (λ κ. max (release_stays a κ) (here κ).end)
 

@@ -1,7 +1,7 @@
 // What is said of a file.
 use checkfile::check_file;
 use model::Answer;
-use openfile::{Opened, open_file};
+use openfile::open_file;
 use std::io;
 use std::io::Write;
 use text::line_of;
@@ -15,11 +15,10 @@ pub(crate) fn print_answer(output: &mut impl Write, told: Answer) -> io::Result<
 
 // The refusal, or 'fine'.
 pub(crate) fn refusal_case(output: &mut impl Write, file: &[u8]) -> io::Result<()> {
-    let opened = open_file(file);
-    let Opened::Refused(number, task) = opened else {
-        return output.write_all(b"fine\n");
-    };
-    print_answer(output, Answer::Refused(number, task))
+    match open_file(file) {
+        Ok(_) => output.write_all(b"fine\n"),
+        Err(refusal) => print_answer(output, Answer::Refused(refusal)),
+    }
 }
 
 pub(crate) fn check_case(output: &mut impl Write, file: &[u8]) -> io::Result<()> {

@@ -18,33 +18,23 @@ pub(crate) fn record_case(output: &mut impl Write, file: &[u8], k: u32) -> io::R
 }
 
 // A job from its source.
-pub(crate) fn shown_case<'a>(
+pub(crate) fn shown_case(
     output: &mut impl Write,
-    recorded: &'a [u8],
-    carried: &'a [u8],
+    recorded: &[u8],
+    carried: &[u8],
     task: u32,
     job: u32,
 ) -> io::Result<()> {
     print_part(output, shown(recorded, carried, task, job))
 }
 
-// A number, and what stands after it in its line.
-fn print_number(output: &mut impl Write, v: u64, after: &[u8]) -> io::Result<()> {
-    write!(output, "{v}")?;
-    output.write_all(after)
-}
-
-fn print_task(output: &mut impl Write, task: Task) -> io::Result<()> {
-    print_number(output, task.period as u64, b" ")?;
-    print_number(output, task.least as u64, b" ")?;
-    print_number(output, task.greatest as u64, b" ")?;
-    print_number(output, task.offset as u64, b" ")?;
-    print_number(output, task.jitter as u64, b"\n")
-}
-
 fn print_tasks(output: &mut impl Write, tasks: [Task; TASKS]) -> io::Result<()> {
-    for task in tasks {
-        print_task(output, task)?;
+    for t in tasks {
+        writeln!(
+            output,
+            "{} {} {} {} {}",
+            t.period, t.least, t.greatest, t.offset, t.jitter
+        )?;
     }
     Ok(())
 }
@@ -61,9 +51,12 @@ const MARK: Task = Task {
 // What is decided of a list with room for so many tasks: the refusal's number and task, and how many are stored. Then all of a list
 // with room for every task, in which each entry was that one before the file was decoded into it.
 pub(crate) fn tasks_case(output: &mut impl Write, file: &[u8], room: u32) -> io::Result<()> {
-    let plan = planned(file, room as usize);
-    print_number(output, plan.number as u64, b" ")?;
-    print_number(output, plan.task as u64, b" ")?;
-    print_number(output, plan.count as u64, b"\n")?;
+    match planned(file, room as usize) {
+        Ok(count) => writeln!(output, "0 0 {count}")?,
+        Err(refusal) => {
+            let (number, named) = refusal.numbers();
+            writeln!(output, "{number} {named} 0")?
+        }
+    }
     print_tasks(output, tasks_over(file, MARK))
 }

@@ -4,19 +4,28 @@
 
 ghost use Rattle.std.specs.Prelude.{◌≤◌, length, IfOk};
 
-use runfile::num_at;
 use std::io;
 use std::io::{Read, Write};
 
 mod carries;
+mod case;
 mod checking;
 mod forms;
 
+use case::{Case, Kind};
+
+// How many cases are run at most, and how many bytes the two files of one have.
+const MOST_CASES: u32 = 2000;
+
+const MOST_BYTES: usize = 32_768;
+
 // Reads until a space is full or the input ends: how many of its bytes are filled.
+// Kept: three programs have this function. A public function of a library has a theorem that its contract permits one result (tests/once), and what comes in is no argument.
 fn fill_from(input: &mut impl Read, space: &mut [u8]) -> io::Result<usize>
     ensures { IfOk result (λ n. n ≤ length space.new) }
 {
     let mut filled = 0;
+    // Kept: it goes on by as many bytes as a read gives, and counts no index.
     while filled < space.len() {
         let n = input.read(&mut space[filled..])?;
         if n == 0 {
@@ -27,35 +36,21 @@ fn fill_from(input: &mut impl Read, space: &mut [u8]) -> io::Result<usize>
     Ok(filled)
 }
 
-fn run_case<'a>(
-    output: &mut impl Write,
-    kind: u32,
-    x: u32,
-    y: u32,
-    one: &'a [u8],
-    other: &'a [u8],
-) -> io::Result<()> {
-    match kind {
-        0 => checking::refusal_case(output, one),
-        1 => checking::check_case(output, one),
-        2 => carries::carry_case(output, one, x, y),
-        3 => forms::record_case(output, one, x),
-        4 => forms::tasks_case(output, one, x),
-        _ => forms::shown_case(output, one, other, x, y),
+fn run_case(output: &mut impl Write, case: Case, one: &[u8], other: &[u8]) -> io::Result<()> {
+    match case.kind {
+        Kind::Refusal => checking::refusal_case(output, one),
+        Kind::Check => checking::check_case(output, one),
+        Kind::Carry => carries::carry_case(output, one, case.x, case.y),
+        Kind::Record => forms::record_case(output, one, case.x),
+        Kind::Tasks => forms::tasks_case(output, one, case.x),
+        Kind::Shown => forms::shown_case(output, one, other, case.x, case.y),
     }
 }
 
 // A case whose two files stand one after the other.
-fn split_case(
-    output: &mut impl Write,
-    kind: u32,
-    x: u32,
-    y: u32,
-    length: usize,
-    both: &[u8],
-) -> io::Result<()> {
-    if length <= both.len() {
-        return run_case(output, kind, x, y, &both[0..length], &both[length..]);
+fn split_case(output: &mut impl Write, case: Case, both: &[u8]) -> io::Result<()> {
+    if case.one <= both.len() {
+        return run_case(output, case, &both[..case.one], &both[case.one..]);
     }
     Ok(())
 }
@@ -64,49 +59,35 @@ fn split_case(
 fn read_case(
     input: &mut impl Read,
     output: &mut impl Write,
-    kind: u32,
-    x: u32,
-    y: u32,
-    length: usize,
+    case: Case,
     space: &mut [u8],
 ) -> io::Result<()> {
     let n = fill_from(input, space)?;
-    split_case(output, kind, x, y, length, &space[0..n])
+    split_case(output, case, &space[..n])
 }
 
 // One case; false where there is none.
 fn next_case(input: &mut impl Read, output: &mut impl Write) -> io::Result<bool> {
-    let mut head = [0u8; 20];
-    if fill_from(input, &mut head)? < 20 {
+    let mut head = [0u8; Case::SIZE];
+    if fill_from(input, &mut head)? < Case::SIZE {
         return Ok(false);
     }
-    let one = num_at(&head, 12) as usize;
-    let other = num_at(&head, 16) as usize;
-    if 32768 < one + other {
+    let case = Case::of(&head);
+    if MOST_BYTES < case.one + case.other {
         return Ok(false);
     }
-    let mut space = [0u8; 32768];
-    read_case(
-        input,
-        output,
-        num_at(&head, 0),
-        num_at(&head, 4),
-        num_at(&head, 8),
-        one,
-        &mut space[0..one + other],
-    )?;
+    let mut space = [0u8; MOST_BYTES];
+    read_case(input, output, case, &mut space[..case.one + case.other])?;
     Ok(true)
 }
 
 fn main(rt: HostRuntime) -> io::Result<()> {
     let mut input = rt.stdin();
     let mut output = rt.stdout();
-    let mut left = 2000u32;
-    while 0 < left {
+    for _ in 0..MOST_CASES {
         if !next_case(&mut input, &mut output)? {
-            return Ok(());
+            break;
         }
-        left -= 1;
     }
     Ok(())
 }

@@ -1,10 +1,10 @@
 -- Whose end a record waited for, in a run within its limits that obeys all rules: a record that did not start at its release has a cause,
 -- and only one; it ended at this start, and it started earlier. Assumes nothing.
+use Rattle.std.specs.Prelude.{None, Option, Some}
 use Prim.Native.Nat.{ℕ, ◌-◌, ◌≤◌, ◌<◌}
 use mathlib.Core.Path.{◌≡◌, refl, sym, ◌∙◌, ap}
 use mathlib.Core.Logic.{◌⊎◌, inl, inr, ⊎_elim}
 use mathlib.Core.Bool.{true, false, false≢true}
-use mathlib.Core.Option.{Option, none, some}
 use native.Mathlib.Omega.{arith}
 use native.Mathlib.Decide.{ℕ_discrete}
 use lib.ListN.{length}
@@ -27,8 +27,8 @@ module _ (ρ : Run) (k : ℕ) where
   says_at_release = says_eqb _ _
 
   ended_if_lem : (o : Option ℕ) → preceding ρ k ≡ o → Says (ended_if ρ k o) ((p : ℕ) × OwnEnded ρ k p)
-  ended_if_lem none e = record { sound = λ q. absurd (false≢true q); refutes = λ q w. some≢none (sym w.1.0 ∙ e) }
-  ended_if_lem (some p) e =
+  ended_if_lem None e = record { sound = λ q. absurd (false≢true q); refutes = λ q w. some≢none (sym w.1.0 ∙ e) }
+  ended_if_lem (Some p) e =
       says_map (λ q. (p, (e, q))) (λ (x, (w, q)). let z : p ≡ x = cc in rw z q) (says_eqb (rec ρ p).end (rec ρ k).start)
 
   pub says_own_ended : Says (own_ended ρ k) ((p : ℕ) × OwnEnded ρ k p)
@@ -42,7 +42,7 @@ module _ (ρ : Run) (k : ℕ) where
       (first_finds _ _ (λ j. says_and (says_eqb (rec ρ j).core (rec ρ k).core) (says_eqb (rec ρ j).end (rec ρ k).start)) 0 (length ρ.records))
 
   -- a record that started at its release has no cause
-  pub no_cause_found : AtRelease ρ k → cause_of ρ k ≡ none
+  pub no_cause_found : AtRelease ρ k → cause_of ρ k ≡ None
   unfolding cause_of
   no_cause_found e =
       let a : at_release ρ k ≡ true = says_true says_at_release e in
@@ -89,8 +89,8 @@ module _ (ρ : Run) (W : WithinLimits ρ) (O : Obeys ρ) where
     ready_earlier f = go (preceding ρ k) refl
       where
         go : (o : Option ℕ) → preceding ρ k ≡ o → ready ρ k < (rec ρ k).start
-        go none e = omega (arith, ready_alone ρ k e, O rule3 k h, late)
-        go (some p) e =
+        go None e = omega (arith, ready_alone ρ k e, O rule3 k h, late)
+        go (Some p) e =
             let n : ¬ EndedAt ρ p k = λ q. f p (e, q) in
             omega (arith, ready_after ρ k p e, end_after ρ k p e, O rule3 k h, O rule9 k h, late, n)
 
@@ -112,16 +112,16 @@ module _ (ρ : Run) (W : WithinLimits ρ) (O : Obeys ρ) where
         by_core : ((p : ℕ) → ¬ OwnEnded ρ k p) → (j : ℕ) × Cause ρ k j
         by_core f = let (j, w) = core_cause f in (j, Cause.core_job late f w)
 
-        of_own : (p : ℕ) → preceding ρ k ≡ some p → Dec (EndedAt ρ p k) → (j : ℕ) × Cause ρ k j
+        of_own : (p : ℕ) → preceding ρ k ≡ Some p → Dec (EndedAt ρ p k) → (j : ℕ) × Cause ρ k j
         of_own p e (yes q) = (p, Cause.own_job late (e, q))
         of_own p e (no f) = by_core (λ x w. let z : p ≡ x = cc in f (rw z w.1))
 
         go : (o : Option ℕ) → preceding ρ k ≡ o → (j : ℕ) × Cause ρ k j
-        go none e = by_core (λ p w. some≢none (sym w.0 ∙ e))
-        go (some p) e = of_own p e (ℕ_discrete (rec ρ p).end (rec ρ k).start)
+        go None e = by_core (λ p w. some≢none (sym w.0 ∙ e))
+        go (Some p) e = of_own p e (ℕ_discrete (rec ρ p).end (rec ρ k).start)
 
   -- It is what is found.
-  pub cause_found : {k j : ℕ} → Cause ρ k j → cause_of ρ k ≡ some j
+  pub cause_found : {k j : ℕ} → Cause ρ k j → cause_of ρ k ≡ Some j
   unfolding cause_of
   cause_found {k} {j} (Cause.own_job f (e, q)) =
       let a : at_release ρ k ≡ false = says_false (says_at_release ρ k) f in
@@ -132,12 +132,12 @@ module _ (ρ : Run) (W : WithinLimits ρ) (O : Obeys ρ) where
       let b : own_ended ρ k ≡ false = says_false (says_own_ended ρ k) (λ x. g x.0 x.1) in
       (λ κ. cause_if ρ (a κ) (b κ) (preceding ρ k) (core_ended ρ k)) ∙ found (core_finds ρ k)
     where
-      found : Finds ◌<◌ (CoreEnded ρ k) (core_ended ρ k) → core_ended ρ k ≡ some j
+      found : Finds ◌<◌ (CoreEnded ρ k) (core_ended ρ k) → core_ended ρ k ≡ Some j
       found (Finds.none_passes e n) = absurd (n j w)
-      found (Finds.passes i e F) = e ∙ ap some (core_once k i j F.here w)
+      found (Finds.passes i e F) = e ∙ ap Some (core_once k i j F.here w)
 
   pub cause_once : {k i j : ℕ} → Cause ρ k i → Cause ρ k j → i ≡ j
-  cause_once {k} {i} {j} c d = let e : some i ≡ some j = sym (cause_found c) ∙ cause_found d in cc
+  cause_once {k} {i} {j} c d = let e : Some i ≡ Some j = sym (cause_found c) ∙ cause_found d in cc
 
   -- Of a record that waited for its core: from when it was ready on every core was busy, and a job that held its core although it goes
   -- after it had begun before it was ready.

@@ -1,6 +1,5 @@
 -- Document 02, request 4: why a job began when it did, whose end it waited for, and the chain of causes.
-use Rattle.std.specs.Prelude.{ℕ, ◌≡◌, List, [], ◌∷◌}
-use Rattle.std.proofs.Math.Option.{some}
+use Rattle.std.specs.Prelude.{ℕ, ◌≡◌, List, [], ◌∷◌, Some}
 use Rattle.model.specs.Model.{Run, IsRecord, rec, preceding}
 use Rattle.model.specs.Rules.{OnOneCore}
 
@@ -15,7 +14,7 @@ module _ (ρ : Run) where
 
   -- p is the preceding job of k's task, and ended at this start
   abbrev pub OwnEnded : ℕ → ℕ → Type 0
-  OwnEnded k p = (preceding ρ k ≡ some p) × EndedAt p k
+  OwnEnded k p = (preceding ρ k ≡ Some p) × EndedAt p k
 
   -- j is a job on k's core, and ended at this start
   abbrev pub CoreEnded : ℕ → ℕ → Type 0

@@ -1,7 +1,6 @@
 -- The cause and the chain, computed: in an accepted run the cause of a record, if it has one (law `cause_found`), and its chain (law
 -- `closes`).
-use Rattle.std.specs.Prelude.{ℕ, zero, suc, Bool, true, false, ◌&&◌, List, [], ◌∷◌, eqb, length}
-use Rattle.std.proofs.Math.Option.{Option, none, some}
+use Rattle.std.specs.Prelude.{ℕ, zero, suc, Bool, true, false, ◌&&◌, List, [], ◌∷◌, eqb, length, None, Option, Some}
 use Rattle.base.specs.Find.{first}
 use Rattle.model.specs.Model.{Run, rec, preceding}
 
@@ -11,8 +10,8 @@ module _ (ρ : Run) where
 
   -- whether a job, if there is one, ended at the start of k
   abbrev pub ended_if : ℕ → Option ℕ → Bool
-  ended_if k none = false
-  ended_if k (some p) = eqb (rec ρ p).end (rec ρ k).start
+  ended_if k None = false
+  ended_if k (Some p) = eqb (rec ρ p).end (rec ρ k).start
 
   unfoldable pub own_ended : ℕ → Bool
   own_ended k = ended_if k (preceding ρ k)
@@ -23,7 +22,7 @@ module _ (ρ : Run) where
 
   -- none where it started at its release; else its own task's job, if that ended then; else the core's
   abbrev pub cause_if : Bool → Bool → Option ℕ → Option ℕ → Option ℕ
-  cause_if true own p j = none
+  cause_if true own p j = None
   cause_if false true p j = p
   cause_if false false p j = j
 
@@ -32,8 +31,8 @@ module _ (ρ : Run) where
 
   -- what comes after a record: nothing, or the chain of its cause
   abbrev pub onwards : (ℕ → List ℕ) → Option ℕ → List ℕ
-  onwards chain none = []
-  onwards chain (some j) = chain j
+  onwards chain None = []
+  onwards chain (Some j) = chain j
 
   -- in at most so many rounds; the start falls at each
   unfoldable pub chain_in : ℕ → ℕ → List ℕ

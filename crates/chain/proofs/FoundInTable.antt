@@ -1,9 +1,9 @@
 -- What is found over the columns of a table is what is found of the run. Assumes nothing.
+use Rattle.std.specs.Prelude.{Option, Some}
 use Prim.Native.Nat.{ℕ, ◌+◌, ◌*◌, ◌-◌, ◌≤◌, ◌<◌}
 use mathlib.Core.Path.{◌≡◌, sym, ◌∙◌, ap}
 use mathlib.Core.Bool.{true, false, ◌&&◌, false≢true}
 use mathlib.Core.List.{List}
-use mathlib.Core.Option.{Option, some}
 use native.Mathlib.Omega.{arith}
 use lib.Dec.{eqb}
 use lib.ListN.{length, get_or}
@@ -50,7 +50,7 @@ module _ {ρ : Run} {t : List ℕ} {n k : ℕ} (L : Lent recorded ρ t n) (l : k
       pub not_at_front : 1 ≤ k
       not_at_front = not_first ρ J k range job
 
-      pub before : preceding ρ k ≡ some (k - 1)
+      pub before : preceding ρ k ≡ Some (k - 1)
       before = record_before ρ J k (k - 1) range job (omega (arith, not_at_front))
 
       pub own_later : eqb (get_or t (4 * n + k - 1) 0) (get_or t (3 * n + k) 0) ≡ own_ended ρ k
@@ -61,7 +61,7 @@ module _ {ρ : Run} {t : List ℕ} {n k : ℕ} (L : Lent recorded ρ t n) (l : k
           ∙ ap (ended_if ρ k) (sym before)
 
     -- where it ended then, it is that of the record before
-    pub own_before : own_ended ρ k ≡ true → (1 ≤ k) × (preceding ρ k ≡ some (k - 1))
+    pub own_before : own_ended ρ k ≡ true → (1 ≤ k) × (preceding ρ k ≡ Some (k - 1))
     own_before e =
         let f : ¬ (get_or t (1 * n + k) 0 ≡ 0) = λ z. false≢true (own_first z ∙ e) in
         (not_at_front f, before f)
@@ -96,7 +96,7 @@ module _ {ρ : Run} {t : List ℕ} {n k : ℕ} (L : Lent recorded ρ t n) (l : k
 -- Of a record that did not start at its release
 -- ---------------------------------------------
 module _ (ρ : Run) (k : ℕ) (late : ¬ AtRelease ρ k) where
-  pub own_is : (p : ℕ) → own_ended ρ k ≡ true → preceding ρ k ≡ some p → some p ≡ cause_of ρ k
+  pub own_is : (p : ℕ) → own_ended ρ k ≡ true → preceding ρ k ≡ Some p → Some p ≡ cause_of ρ k
   unfolding cause_of
   own_is p b e =
       let a : at_release ρ k ≡ false = says_false (says_at_release ρ k) late in

@@ -1,8 +1,8 @@
 -- From one round of the chain to the next: the cause that is found is the cause, it is in the table, and its start is lower. Assumes nothing.
+use Rattle.std.specs.Prelude.{None, Option, Some}
 use Prim.Native.Nat.{ℕ, ◌<◌}
 use mathlib.Core.Path.{◌≡◌, sym, ◌∙◌, subst}
 use mathlib.Core.Bool.{Bool, true, false}
-use mathlib.Core.Option.{Option, none, some}
 use mathlib.Core.List.{List}
 use native.Mathlib.Omega.{arith}
 use Rattle.base.proofs.Find.{some≢none}
@@ -20,10 +20,10 @@ module _ {ρ : Run} {t : List ℕ} {n : ℕ} (T : Traced ρ t n) where
     pub traced_record : IsRecord ρ k
     traced_record = omega (arith, T.table.count)
 
-    pub cause_is : {j : ℕ} {o : Option ℕ} → ¬ AtRelease ρ k → o ≡ cause_of ρ k → o ≡ some j → Cause ρ k j
+    pub cause_is : {j : ℕ} {o : Option ℕ} → ¬ AtRelease ρ k → o ≡ cause_of ρ k → o ≡ Some j → Cause ρ k j
     cause_is {j} late e q =
         let (i, C) = has_cause ρ traced_limits T.obeys k traced_record late in
-        let w : some i ≡ some j = sym (cause_found ρ traced_limits T.obeys C) ∙ sym e ∙ q in
+        let w : Some i ≡ Some j = sym (cause_found ρ traced_limits T.obeys C) ∙ sym e ∙ q in
         let z : i ≡ j = cc in
         subst (Cause ρ k) z C
 
@@ -34,7 +34,7 @@ module _ {ρ : Run} {t : List ℕ} {n : ℕ} (T : Traced ρ t n) where
         (h, omega (arith, s, T.table.number 3 j (omega arith) h, T.table.number 3 k (omega arith) l))
 
   -- a cause is found
-  pub cause_lost : {k j : ℕ} {o : Option ℕ} → o ≡ cause_of ρ k → o ≡ none → ¬ Cause ρ k j
+  pub cause_lost : {k j : ℕ} {o : Option ℕ} → o ≡ cause_of ρ k → o ≡ None → ¬ Cause ρ k j
   cause_lost e q C = some≢none (sym (cause_found ρ traced_limits T.obeys C) ∙ sym e ∙ q)
 
 -- what a test of the release says

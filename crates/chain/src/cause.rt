@@ -1,7 +1,7 @@
 // Whose end a record waited for.
 ghost use Rattle.std.specs.Prelude.{◌≡◌, [], ◌∷◌, ◌<◌, length};
 ghost use Rattle.base.specs.Columns.{Columns};
-ghost use Rattle.base.specs.Find.{seen, first};
+ghost use Rattle.base.specs.Find.{first};
 ghost use Rattle.model.specs.Model.{Run, most_records};
 ghost use Rattle.model.specs.Rules.{Jobs};
 ghost use Rattle.table.specs.Table.{Sized, Lent, recorded};
@@ -9,7 +9,6 @@ ghost use Rattle.causes.specs.Cause.{AtRelease};
 ghost use Rattle.causes.specs.FoundCause.{at_release, own_ended, cause_of};
 ghost use Rattle.chain.specs.ChainTold.{ended_in};
 
-use base::Found;
 use table::{CORE, END, JOB, RELEASE, START, column};
 
 // Whether record k started at its release.
@@ -25,37 +24,27 @@ fn own_ended(t: &[u32], n: usize, k: usize) -> bool
     requires { Sized t.now n × (k < n) }
     ensures { (ρ : Run) → Jobs ρ → Lent recorded ρ t.now n → result ≡ own_ended ρ k }
 {
-    if t[JOB * n + k] == 0 {
-        return false;
-    }
-    t[END * n + k - 1] == t[START * n + k]
+    t[JOB * n + k] != 0 && t[END * n + k - 1] == t[START * n + k]
 }
 
 // The first record on a core that ended at an instant.
-fn core_ended(end: &[u32], core: &[u32], c: u32, at: u32) -> Found
+fn core_ended(end: &[u32], core: &[u32], c: u32, at: u32) -> Option<u32>
     requires { Columns most_records end.now (core.now ∷ []) }
-    ensures { seen result ≡ first (ended_in end.now core.now c at) 0 (length end.now) }
+    ensures { result ≡ first (ended_in end.now core.now c at) 0 (length end.now) }
 {
-    let mut j = 0;
-    while j < end.len() {
-        if end[j] == at {
-            if core[j] == c {
-                return Found::At(j as u32);
-            }
-        }
-        j += 1;
-    }
-    Found::Nothing
+    end.iter()
+        .zip(core)
+        .position(|(e, on)| *e == at && *on == c)
+        .map(|j| j as u32)
 }
 
 // The cause of a record that did not start at its release.
-pub(crate) fn cause(t: &[u32], n: usize, k: u32) -> Found
+pub(crate) fn cause(t: &[u32], n: usize, k: u32) -> Option<u32>
     requires { (k < n) × ((ρ : Run) × Jobs ρ × Lent recorded ρ t.now n) }
-    ensures { (ρ : Run) → Jobs ρ → Lent recorded ρ t.now n → ¬ AtRelease ρ k → seen result ≡ cause_of ρ k }
+    ensures { (ρ : Run) → Jobs ρ → Lent recorded ρ t.now n → ¬ AtRelease ρ k → result ≡ cause_of ρ k }
 {
-    let own = own_ended(t, n, k as usize);
-    if own {
-        return Found::At(k - 1);
+    if own_ended(t, n, k as usize) {
+        return Some(k - 1);
     }
     core_ended(
         column(t, n, END),

@@ -9,8 +9,7 @@ ghost use Rattle.causes.specs.Why.{chain_room};
 ghost use Rattle.chain.specs.ChainTold.{Traced, start_in, put_if, Told, most_rounds};
 
 use crate::cause::{at_release, cause};
-use base::Found;
-use model::Answer;
+use model::{Answer, Refusal};
 use wire::put_u32;
 
 // A number at place i of the output, counted in numbers of four bytes, where there is room.
@@ -43,7 +42,7 @@ fn whose_end(t: &[u32], n: usize, k: u32, out: &mut [u8], i: usize) -> usize
     ensures { (ρ : Run) (j : ℕ) (l : List ℕ) → Traced ρ t.now n → Cause ρ k j → Chain ρ j l
         → Told l out.old i out.new result }
 {
-    let Found::At(j) = cause(t, n, k) else {
+    let Some(j) = cause(t, n, k) else {
         return i;
     };
     why_began(t, n, j, out, i)
@@ -55,10 +54,9 @@ pub fn write_chain(t: &[u32], n: usize, k: u32, output: &mut [u8]) -> Answer
     ensures { (ρ : Run) → Traced ρ t.now n
         → Leaves (chain_room (chain_of ρ k) (length output.old)) output.old (five_of result) output.new }
 {
-    let mut none = [0u8; 1];
-    let count = why_began(t, n, k, &mut none[..0], 0);
+    let count = why_began(t, n, k, &mut [], 0);
     if output.len() < 4 * count {
-        return Answer::Refused(11, 0);
+        return Answer::Refused(Refusal::NoRoom);
     }
     why_began(t, n, k, output, 0);
     Answer::Chain(count as u32)

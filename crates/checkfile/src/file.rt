@@ -4,7 +4,7 @@ ghost use Rattle.model.specs.Answers.{five_of};
 ghost use Rattle.model.specs.Compute.Verdict.{check};
 
 use model::Answer;
-use openfile::{Opened, open_file};
+use openfile::opened;
 use tasklist::tasks_of;
 use verdict::judge_run;
 
@@ -12,8 +12,8 @@ use verdict::judge_run;
 pub fn check_file(file: &[u8]) -> Answer
     ensures { five_of result ≡ check file.now }
 {
-    match open_file(file) {
-        Opened::Refused(number, task) => Answer::Refused(number, task),
-        Opened::Whole(head) => judge_run(file, head, tasks_of(file, head)),
+    match opened(file) {
+        Ok(o) => judge_run(o, tasks_of(o)),
+        Err(refusal) => Answer::Refused(refusal),
     }
 }

@@ -4,10 +4,12 @@ use Prim.Native.Nat.{ℕ, zero, suc, ◌+◌, ◌-◌, ◌*◌, ◌/◌, ◌%◌
 use mathlib.Core.Path.{◌≡◌, refl, sym, ◌∙◌, ap}
 use mathlib.Core.List.{List, [], ◌∷◌, ◌++◌}
 use native.Mathlib.Decide.{dec_lt}
-use native.Mathlib.Nat.{div-lt_iff_lt-mul, pow-suc}
+use native.Mathlib.Nat.{div-lt_iff_lt-mul, one-le-pow, pow-suc}
 use native.Mathlib.Omega.{arith}
 use lib.ListN.{length, get_or, length-append}
 use borrow.Author.Tests.{lt-ltb, le-ltb}
+use Rattle.std.specs.Option.{IfNone, IfSome, unwrap_or}
+use Rattle.std.specs.Prelude.{None, Option, Some}
 use Rattle.model.specs.Report.{digit, decimal_in, decimal}
 
 in_small : (n v : ℕ) → v < 10 → decimal_in (suc n) v ≡ digit v ∷ []
@@ -63,6 +65,17 @@ length_small v h = ap length (decimal_small v h)
 
 pub length_more : (v : ℕ) → 10 ≤ v → v < 4294967296 → length (decimal v) ≡ length (decimal (v / 10)) + 1
 length_more v h l = ap length (decimal_more v h l) ∙ length-append (decimal (v / 10)) (digit (v % 10) ∷ [])
+
+-- as many as the power of ten below says; zero has one, too
+length_power : (k v : ℕ) → 10 ^ k ≤ v → v < 10 * 10 ^ k → v < 4294967296 → length (decimal v) ≡ k + 1
+length_power zero v h l m = length_small v l
+length_power (suc k) v h l m =
+    let e : 10 ^ suc k ≡ 10 * 10 ^ k = rw pow-suc (omega arith) in
+    length_more v (omega (arith, one-le-pow k 10 (omega arith))) m ∙ ap (λ n. n + 1) (length_power k (v / 10) (omega arith) (omega arith) (omega arith)) ∙ omega arith
+
+pub length_log : (k : Option ℕ) (v : ℕ) → v < 4294967296 → IfNone k (v ≡ 0) → IfSome k (λ n. 10 ^ n ≤ v) → IfSome k (λ n. v < 10 * 10 ^ n) → unwrap_or k 0 + 1 ≡ length (decimal v)
+length_log None v m z h l = sym (length_small v (omega arith))
+length_log (Some k) v m z h l = sym (length_power k v h l m)
 
 -- there is one
 pub decimal_some : (v : ℕ) → ¬ (decimal v ≡ [])

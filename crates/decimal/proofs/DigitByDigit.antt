@@ -2,14 +2,15 @@
 use Prim.Native.Nat.{ℕ, ◌+◌, ◌-◌, ◌*◌, ◌≤◌, ◌<◌}
 use mathlib.Core.Path.{◌≡◌, refl, sym, ◌∙◌, ap, subst}
 use mathlib.Core.List.{List, [], ◌∷◌, ◌++◌, append_assoc}
-use mathlib.Core.Logic.{◌⊎◌, inl, inr}
+use native.Mathlib.Decide.{dec_le}
 use native.Mathlib.Numerals.{add-one}
 use native.Mathlib.Omega.{arith}
 use lib.ListN.{length, get_or, drop, length-drop}
 use lib.Seq.{drop-cons, drop-length, get_or-drop}
 use native.Mathlib.Nat.{add-zero}
+use Rattle.std.specs.Prelude.{None, Option}
 use Rattle.model.specs.Report.{digit, decimal}
-use Rattle.decimal.specs.NumberFirst.{NumberFirst}
+use Rattle.decimal.specs.NumberFirst.{NumberFirst, SaysNumber}
 use Rattle.decimal.proofs.Decimal.{Digits, none, more, decimal_some, decimal_small, decimal_on, decimal_digits, decimal_least, zero_alone}
 
 -- two ways to cut a text behind digits: the one goes on where the other stops
@@ -59,22 +60,19 @@ module _ {l m : List ℕ} (v : ℕ) (few : v < 4294967296) (read : l ≡ decimal
       go [] none q r = let z : b ≡ stop = cc in stops z
       go (z ∷ zs) (more f g h) q r = let y : z ≡ b = cc in goes_by (omega arith) (omega arith) zs (q ∙ ap (λ x. decimal v ++ (x ∷ zs)) y)
 
-  -- no other byte
-  pub not_other : (b : ℕ) (n : List ℕ) → m ≡ b ∷ n → ¬ (b ≡ stop) → ((48 ≤ b) × (b ≤ 57) → ⊥) → ⊥
-  not_other b n e f g = go (next b n e)
+  -- no other byte, no digit behind a zero, and none that makes the number too large
+  pub not_more : (b : ℕ) (n : List ℕ) → m ≡ b ∷ n → ¬ (b ≡ stop) → ((1 ≤ v) × (48 ≤ b) × (b ≤ 57) × (v * 10 + (b - 48) < 4294967296) → ⊥) → ⊥
+  not_more b n e f g = go (next b n e)
     where
+      some : (zs : List ℕ) → decimal w ≡ decimal v ++ (b ∷ zs) → Dec (1 ≤ v) → 1 ≤ v
+      some zs r (yes h) = h
+      some zs r (no h) =
+          let z : v ≡ 0 = omega arith in
+          absurd (zero_alone w b zs B.four_bytes (r ∙ ap (λ u. decimal u ++ (b ∷ zs)) z ∙ ap (λ x. x ++ (b ∷ zs)) (decimal_small 0 (omega arith))))
+
       go : Next v w stop b → ⊥
       go (stops q) = f q
-      go (goes_by p q zs r) = g (p, q)
-
-  -- no digit behind a zero, and none that makes the number too large
-  pub not_more : (b : ℕ) (n : List ℕ) → m ≡ b ∷ n → ¬ (b ≡ stop) → (v ≡ 0) ⊎ (4294967295 < v * 10 + (b - 48)) → ⊥
-  not_more b n e f g = go (next b n e) g
-    where
-      go : Next v w stop b → (v ≡ 0) ⊎ (4294967295 < v * 10 + (b - 48)) → ⊥
-      go (stops q) k = f q
-      go (goes_by p q zs r) (inl z) = zero_alone w b zs B.four_bytes (r ∙ ap (λ u. decimal u ++ (b ∷ zs)) z ∙ ap (λ x. x ++ (b ∷ zs)) (decimal_small 0 (omega arith)))
-      go (goes_by p q zs r) (inr z) = omega (arith, decimal_least v w b zs few B.four_bytes r, B.four_bytes)
+      go (goes_by p q zs r) = g (some zs r (dec_le 1 v), p, q, omega (arith, decimal_least v w b zs few B.four_bytes r, B.four_bytes))
 
 -- The same at the front of a text, where nothing was read yet: a digit stands there.
 pub front : {l : List ℕ} {w stop : ℕ} {rest : List ℕ} → NumberFirst l w stop rest → (d : ℕ) → (48 ≤ get_or l 0 d) × (get_or l 0 d ≤ 57) × (1 ≤ length l)
@@ -99,25 +97,25 @@ module _ (s : List ℕ) (i : ℕ) (h : i < length s) where
   here : drop i s ≡ byte ∷ drop (i + 1) s
   here = drop-cons s i 0 h ∙ rw add-one
 
-  pub has_first : (48 ≤ byte) → byte ≤ 57 → Has s i (i + 1) (byte - 48)
-  has_first a b = record {
+  pub has_first : {w : ℕ} → 48 ≤ byte → byte ≤ 57 → w ≡ byte - 48 → Has s i (i + 1) w
+  has_first {w} a b q = record {
     past = omega arith;
     within = omega arith;
     few = omega arith;
     text =
-        let e : byte ≡ digit (byte - 48) = omega arith in
-        here ∙ ap (λ x. x ∷ drop (i + 1) s) e ∙ ap (λ l. l ++ drop (i + 1) s) (sym (decimal_small (byte - 48) (omega arith)));
+        let e : byte ≡ digit w = omega arith in
+        here ∙ ap (λ x. x ∷ drop (i + 1) s) e ∙ ap (λ l. l ++ drop (i + 1) s) (sym (decimal_small w (omega arith)));
   }
 
   module _ {at v : ℕ} (H : Has s at i v) where
-    pub has_more : ¬ (v ≡ 0) → 48 ≤ byte → byte ≤ 57 → {w : ℕ} → w ≡ v * 10 + (byte - 48) → w < 4294967296 → Has s at (i + 1) w
-    has_more f a b {w} e l = record {
+    pub has_more : {w : ℕ} → ((1 ≤ v) × (48 ≤ byte) × (byte ≤ 57) × (v * 10 + (byte - 48) < 4294967296)) × (w ≡ v * 10 + (byte - 48)) → Has s at (i + 1) w
+    has_more {w} ((f, a, b, l), e) = record {
       past = omega (arith, H.past);
       within = omega arith;
-      few = l;
+      few = omega arith;
       text =
           let d : byte ≡ digit (byte - 48) = omega arith in
-          let q : decimal w ≡ decimal v ++ (digit (byte - 48) ∷ []) = ap decimal e ∙ decimal_on v (byte - 48) (omega (arith, f)) (omega arith) (omega arith) in
+          let q : decimal w ≡ decimal v ++ (digit (byte - 48) ∷ []) = ap decimal e ∙ decimal_on v (byte - 48) f (omega arith) l in
           H.text
           ∙ ap (λ x. decimal v ++ x) here
           ∙ ap (λ x. decimal v ++ (x ∷ drop (i + 1) s)) d
@@ -128,18 +126,17 @@ module _ (s : List ℕ) (i : ℕ) (h : i < length s) where
     pub has_number : {stop : ℕ} → byte ≡ stop → (i + 1 ≤ length s) × NumberFirst (drop at s) v stop (drop (i + 1) s)
     has_number e = (omega arith, record { four_bytes = H.few; text = H.text ∙ ap (λ x. decimal v ++ x) here ∙ ap (λ x. decimal v ++ (x ∷ drop (i + 1) s)) e })
 
-    pub bad_byte : {w stop : ℕ} {rest : List ℕ} → stop < 48 → ¬ (byte ≡ stop) → ((48 ≤ byte) × (byte ≤ 57) → ⊥) → ¬ NumberFirst (drop at s) w stop rest
-    bad_byte h f g B = not_other v H.few H.text h B byte (drop (i + 1) s) here f g
-
-    pub bad_digit : {w stop : ℕ} {rest : List ℕ} → stop < 48 → ¬ (byte ≡ stop) → (v ≡ 0) ⊎ (4294967295 < v * 10 + (byte - 48)) → ¬ NumberFirst (drop at s) w stop rest
-    bad_digit h f g B = not_more v H.few H.text h B byte (drop (i + 1) s) here f g
+    pub bad_more : (stop : ℕ) {r : Option (ℕ × ℕ)} → r ≡ None → stop < 48 → ¬ (byte ≡ stop) → ((1 ≤ v) × (48 ≤ byte) × (byte ≤ 57) × (v * 10 + (byte - 48) < 4294967296) → ⊥) → SaysNumber s at stop r
+    bad_more stop e h f g = rw e (λ w rest B. not_more v H.few H.text h B byte (drop (i + 1) s) here f g)
 
 pub bad_end : {s : List ℕ} {at i v : ℕ} → Has s at i v → length s ≤ i → {w stop : ℕ} {rest : List ℕ} → stop < 48 → ¬ NumberFirst (drop at s) w stop rest
 bad_end {s} {at} {i} {v} H h l B = not_nothing v H.few H.text l B (let e : length s ≡ i = omega (arith, H.within) in rw (← e) (drop-length s))
 
 -- No digit stands at the front.
-pub bad_front : (s : List ℕ) (at : ℕ) {w stop : ℕ} {rest : List ℕ} → ((48 ≤ get_or s at 0) × (get_or s at 0 ≤ 57) × (at < length s) → ⊥) → ¬ NumberFirst (drop at s) w stop rest
-bad_front s at f B =
+pub bad_front : (s : List ℕ) (at stop : ℕ) {r : Option (ℕ × ℕ)} → r ≡ None → ((48 ≤ get_or s at 0) × (get_or s at 0 ≤ 57) × (at < length s) → ⊥) → SaysNumber s at stop r
+bad_front s at stop n f =
+    rw n
+    (λ w rest B.
     let (a, b, c) = front B 0 in
     let e : get_or (drop at s) 0 0 ≡ get_or s at 0 = get_or-drop at s 0 0 ∙ rw add-zero in
-    f (omega arith, omega arith, omega (arith, length-drop at s))
+    f (omega arith, omega arith, omega (arith, length-drop at s)))

@@ -5,17 +5,16 @@ use mathlib.Core.List.{List, [], ◌∷◌, ◌++◌, append-nil}
 use native.Mathlib.Omega.{arith}
 use lib.ListN.{length, drop, length-drop}
 use Rattle.model.specs.Report.{decimal}
-use Rattle.decimal.specs.declared.Parsed.{Parsed}
-use Rattle.decimal.specs.declared.Parsed.TheVariants.{Number, Bad}
+use Rattle.std.specs.Prelude.{None, Option, Some}
 use Rattle.decimal.specs.NumberFirst.{NumberFirst, SaysNumber}
 use Rattle.decimal.proofs.Decimal.{Digits, none, more, decimal_digits, decimal_one}
 use Rattle.decimal.proofs.DigitByDigit.{Goes, goes}
 
-module _ (s : List ℕ) (at stop : ℕ) {p : Parsed} (told : SaysNumber s at stop p) where
-  pub number_of : {v next : ℕ} → p ≡ Number v next → (next ≤ length s) × NumberFirst (drop at s) v stop (drop next s)
+module _ (s : List ℕ) (at stop : ℕ) {p : Option (ℕ × ℕ)} (told : SaysNumber s at stop p) where
+  pub number_of : {v next : ℕ} → p ≡ Some (v, next) → (next ≤ length s) × NumberFirst (drop at s) v stop (drop next s)
   number_of e = subst (SaysNumber s at stop) e told
 
-  pub bad_of : p ≡ Bad → (v : ℕ) (rest : List ℕ) → ¬ NumberFirst (drop at s) v stop rest
+  pub bad_of : p ≡ None → (v : ℕ) (rest : List ℕ) → ¬ NumberFirst (drop at s) v stop rest
   bad_of e = subst (SaysNumber s at stop) e told
 
 -- one number at most stands first, and what follows it is one rest
@@ -35,8 +34,8 @@ same_place : (s : List ℕ) (i j : ℕ) → i ≤ length s → j ≤ length s �
 same_place s i j h l e = omega (arith, ap length e, length-drop i s, length-drop j s)
 
 -- two readings at a place say the same
-pub says_one : (s : List ℕ) (at stop : ℕ) (p q : Parsed) → stop < 48 → SaysNumber s at stop p → SaysNumber s at stop q → p ≡ q
-says_one s at stop (Number v i) (Number w j) h (l, A) (m, B) = let (e, r) = first_one h A B in let d = same_place s i j l m r in λ κ. Number (e κ) (d κ)
-says_one s at stop (Number v i) Bad h (l, A) g = absurd (g v (drop i s) A)
-says_one s at stop Bad (Number w j) h f (m, B) = absurd (f w (drop j s) B)
-says_one s at stop Bad Bad h f g = refl
+pub says_one : (s : List ℕ) (at stop : ℕ) (p q : Option (ℕ × ℕ)) → stop < 48 → SaysNumber s at stop p → SaysNumber s at stop q → p ≡ q
+says_one s at stop (Some (v, i)) (Some (w, j)) h (l, A) (m, B) = let (e, r) = first_one h A B in let d = same_place s i j l m r in λ κ. Some (e κ, d κ)
+says_one s at stop (Some (v, i)) None h (l, A) g = absurd (g v (drop i s) A)
+says_one s at stop None (Some (w, j)) h f (m, B) = absurd (f w (drop j s) B)
+says_one s at stop None None h f g = refl

@@ -1,10 +1,10 @@
 -- Bytes of a table past the 33,890th do not alter what is read of it: the header, 512 lines of at most 66 bytes, and one line more. Assumes
 -- nothing.
+use Rattle.std.specs.Prelude.{None, Option, Some}
 use Prim.Native.Nat.{ℕ, zero, suc, ◌+◌, ◌-◌, ◌*◌, ◌≤◌}
 use mathlib.Core.Path.{◌≡◌, refl, sym, ◌∙◌, ap}
 use mathlib.Core.Bool.{Bool, true, false}
 use mathlib.Core.List.{List, [], ◌∷◌, ◌++◌, append_assoc}
-use mathlib.Core.Option.{Option, none, some}
 use native.Mathlib.Omega.{arith}
 use lib.ListN.{length, take, drop, length-take, take-append-drop}
 use lib.Seq.{take-append-add}
@@ -30,7 +30,7 @@ front_line : {l : List ℕ} {x : Record} {rest : List ℕ} (k : ℕ) → 66 ≤ 
 front_line {l} {x} {rest} k h L =
     record { fits = L.fits; text = ap (take k) L.text ∙ take_past (record_line x) rest k (omega (arith, length-line x)) }
 
-no_front_line : (l : List ℕ) (k : ℕ) → line_in l ≡ none → line_in (take k l) ≡ none
+no_front_line : (l : List ℕ) (k : ℕ) → line_in l ≡ None → line_in (take k l) ≡ None
 no_front_line l k e =
     line_in_none (take k l) (λ x rest L.
     let M : LineFirst l x (rest ++ drop k l) = record { fits = L.fits; text = whole_begins (record_line x) l rest k L.text } in
@@ -50,8 +50,8 @@ lines_front zero xs (c ∷ l) k h = go (line_in (c ∷ l)) refl
     some_byte = omega (arith, length-take k (c ∷ l))
 
     go : (o : Option (Record × List ℕ)) → line_in (c ∷ l) ≡ o → lines_from 0 xs (take k (c ∷ l)) ≡ lines_from 0 xs (c ∷ l)
-    go none e = lines_bad 0 xs _ some_byte (no_front_line (c ∷ l) k e) ∙ sym (lines_bad 0 xs (c ∷ l) (omega arith) e)
-    go (some (x, rest)) e =
+    go None e = lines_bad 0 xs _ some_byte (no_front_line (c ∷ l) k e) ∙ sym (lines_bad 0 xs (c ∷ l) (omega arith) e)
+    go (Some (x, rest)) e =
         lines_many xs _ some_byte (line_in_of (front_line k (omega arith) (line_in_got (c ∷ l) x rest e))) ∙ sym (lines_many xs (c ∷ l) (omega arith) e)
 lines_front (suc n) xs (c ∷ l) k h = go (line_in (c ∷ l)) refl (λ x rest j. lines_front n (xs ++ (x ∷ [])) rest j)
   where
@@ -61,10 +61,10 @@ lines_front (suc n) xs (c ∷ l) k h = go (line_in (c ∷ l)) refl (λ x rest j.
     go : (o : Option (Record × List ℕ)) → line_in (c ∷ l) ≡ o
         → ((x : Record) (rest : List ℕ) (j : ℕ) → 66 * n + 66 ≤ j → lines_from n (xs ++ (x ∷ [])) (take j rest) ≡ lines_from n (xs ++ (x ∷ [])) rest)
         → lines_from (suc n) xs (take k (c ∷ l)) ≡ lines_from (suc n) xs (c ∷ l)
-    go none e on = lines_bad (suc n) xs _ some_byte (no_front_line (c ∷ l) k e) ∙ sym (lines_bad (suc n) xs (c ∷ l) (omega arith) e)
-    go (some (x, rest)) e on = by (given (job_of x) xs) refl
+    go None e on = lines_bad (suc n) xs _ some_byte (no_front_line (c ∷ l) k e) ∙ sym (lines_bad (suc n) xs (c ∷ l) (omega arith) e)
+    go (Some (x, rest)) e on = by (given (job_of x) xs) refl
       where
-        front : line_in (take k (c ∷ l)) ≡ some (x, take (k - length (record_line x)) rest)
+        front : line_in (take k (c ∷ l)) ≡ Some (x, take (k - length (record_line x)) rest)
         front = line_in_of (front_line k (omega arith) (line_in_got (c ∷ l) x rest e))
 
         by : (t : Bool) → given (job_of x) xs ≡ t → lines_from (suc n) xs (take k (c ∷ l)) ≡ lines_from (suc n) xs (c ∷ l)
@@ -79,15 +79,15 @@ module _ (T : List ℕ) (k : ℕ) (h : most_table + 66 ≤ k) where
   table_prefix = go (after header T) refl
     where
       go : (o : Option (List ℕ)) → after header T ≡ o → table_read (take k T) ≡ table_read T
-      go none e = read_headless (take k T) (headless (after header (take k T)) refl) ∙ sym (read_headless T e)
+      go None e = read_headless (take k T) (headless (after header (take k T)) refl) ∙ sym (read_headless T e)
         where
-          headless : (o : Option (List ℕ)) → after header (take k T) ≡ o → after header (take k T) ≡ none
-          headless none q = q
-          headless (some l) q =
+          headless : (o : Option (List ℕ)) → after header (take k T) ≡ o → after header (take k T) ≡ None
+          headless None q = q
+          headless (Some l) q =
               let t = whole_begins header T l k (after_got header (take k T) l q) in
               let z : ◌≡◌ {A = ℕ} 0 1 = cc (ap (after header) t ∙ after_is header (l ++ drop k T)) in
               absurd (omega arith)
-      go (some l) e =
+      go (Some l) e =
           let t = ap (take k) (after_got header T l e) ∙ take_past header l k (omega (arith, length-header)) in
           read_headed (take k T) (take (k - length header) l) (ap (after header) t ∙ after_is header (take (k - length header) l))
           ∙ lines_front most_records _ l (k - length header) (omega (arith, length-header))

@@ -1,9 +1,9 @@
 -- The line that stands first in a text: what is found by computing is what the text is. Assumes nothing.
+use Rattle.std.specs.Prelude.{None, Option, Some}
 use Prim.Native.Nat.{ℕ, ◌+◌, ◌-◌, ◌*◌, ◌≤◌, ◌<◌}
 use mathlib.Core.Path.{◌≡◌, refl, sym, ◌∙◌, ap, subst}
 use mathlib.Core.Bool.{Bool, true, false}
 use mathlib.Core.List.{List, [], ◌∷◌, ◌++◌, append_assoc}
-use mathlib.Core.Option.{Option, none, some}
 use native.Mathlib.Numerals.{add-one}
 use native.Mathlib.Omega.{arith}
 use lib.Dec.{ltb, eqb}
@@ -26,28 +26,28 @@ length-header = refl
 
 -- The rest of a text that begins with another.
 -- --------------------------------------------
-pub after_is : (p rest : List ℕ) → after p (p ++ rest) ≡ some rest
+pub after_is : (p rest : List ℕ) → after p (p ++ rest) ≡ Some rest
 unfolding after
 after_is [] rest = refl
 after_is (c ∷ p) rest = rw (says_true (says_eqb c c) refl, after) (after_is p rest)
 
-pub after_got : (p l rest : List ℕ) → after p l ≡ some rest → l ≡ p ++ rest
+pub after_got : (p l rest : List ℕ) → after p l ≡ Some rest → l ≡ p ++ rest
 unfolding after
 after_got [] l rest e = cc
 after_got (c ∷ p) [] rest e = let z : ◌≡◌ {A = ℕ} 0 1 = cc in absurd (omega arith)
 after_got (c ∷ p) (d ∷ l) rest e = go (eqb c d) (says_eqb c d) (after_got p l rest) e
   where
-    go : (t : Bool) → Says t (c ≡ d) → (after p l ≡ some rest → l ≡ p ++ rest) → elim t [ true ↦ after p l | false ↦ none ] ≡ some rest → d ∷ l ≡ c ∷ p ++ rest
+    go : (t : Bool) → Says t (c ≡ d) → (after p l ≡ Some rest → l ≡ p ++ rest) → elim t [ true ↦ after p l | false ↦ None ] ≡ Some rest → d ∷ l ≡ c ∷ p ++ rest
     go true s on q = let k = on q in let h = s.sound refl in λ κ. sym h κ ∷ k κ
     go false s on q = let z : ◌≡◌ {A = ℕ} 0 1 = cc in absurd (omega arith)
 
-pub after_short : (p l : List ℕ) → length l < length p → after p l ≡ none
+pub after_short : (p l : List ℕ) → length l < length p → after p l ≡ None
 unfolding after
 after_short [] l h = absurd (omega arith)
 after_short (c ∷ p) [] h = refl
 after_short (c ∷ p) (d ∷ l) h = go (eqb c d) (after_short p l (omega arith))
   where
-    go : (t : Bool) → after p l ≡ none → ◌≡◌ {A = Option (List ℕ)} (elim t [ true ↦ after p l | false ↦ none ]) none
+    go : (t : Bool) → after p l ≡ None → ◌≡◌ {A = Option (List ℕ)} (elim t [ true ↦ after p l | false ↦ None ]) None
     go true e = e
     go false e = refl
 
@@ -60,11 +60,11 @@ module _ (p l : List ℕ) (i : ℕ) (h : i < length p) (k : i < length l) where
   unfolding after
   after_on e = rw (next_of p h, next_of l k, says_true (says_eqb (get_or p i 0) (get_or l i 0)) e, after)
 
-  pub after_not : ¬ (get_or p i 0 ≡ get_or l i 0) → after (drop i p) (drop i l) ≡ none
+  pub after_not : ¬ (get_or p i 0 ≡ get_or l i 0) → after (drop i p) (drop i l) ≡ None
   unfolding after
   after_not f = rw (next_of p h, next_of l k, says_false (says_eqb (get_or p i 0) (get_or l i 0)) f, after)
 
-pub after_all : (p l : List ℕ) → after (drop (length p) p) l ≡ some l
+pub after_all : (p l : List ℕ) → after (drop (length p) p) l ≡ Some l
 unfolding after
 after_all p l = rw (drop-length p)
 
@@ -145,25 +145,25 @@ says_fit x =
 -- The line that is found is the line that stands first.
 -- -----------------------------------------------------
 had : Option (Record × List ℕ) → Record × List ℕ
-had none = (no_record, [])
-had (some p) = p
+had None = (no_record, [])
+had (Some p) = p
 
-pub line_in_of : {l : List ℕ} {x : Record} {rest : List ℕ} → LineFirst l x rest → line_in l ≡ some (x, rest)
+pub line_in_of : {l : List ℕ} {x : Record} {rest : List ℕ} → LineFirst l x rest → line_in l ≡ Some (x, rest)
 unfolding line_in
 line_in_of {l} {x} {rest} L =
     let g : guess l ≡ x = ap guess L.text ∙ guess_is x rest L.fits in
     (λ κ. line_if (fit (g κ)) (g κ) (after (record_line (g κ)) (L.text κ)))
     ∙ (λ κ. line_if (says_true (says_fit x) L.fits κ) x (after_is (record_line x) rest κ))
 
-pub line_in_got : (l : List ℕ) (x : Record) (rest : List ℕ) → line_in l ≡ some (x, rest) → LineFirst l x rest
+pub line_in_got : (l : List ℕ) (x : Record) (rest : List ℕ) → line_in l ≡ Some (x, rest) → LineFirst l x rest
 unfolding line_in had
 line_in_got l x rest e = go (fit (guess l)) (says_fit (guess l)) (after (record_line (guess l)) l) refl e
   where
-    go : (t : Bool) → Says t (RecordFits (guess l)) → (o : Option (List ℕ)) → after (record_line (guess l)) l ≡ o → line_if t (guess l) o ≡ some (x, rest)
+    go : (t : Bool) → Says t (RecordFits (guess l)) → (o : Option (List ℕ)) → after (record_line (guess l)) l ≡ o → line_if t (guess l) o ≡ Some (x, rest)
         → LineFirst l x rest
     go false s o q e = let z : ◌≡◌ {A = ℕ} 0 1 = cc in absurd (omega arith)
-    go true s none q e = let z : ◌≡◌ {A = ℕ} 0 1 = cc in absurd (omega arith)
-    go true s (some r) q e =
+    go true s None q e = let z : ◌≡◌ {A = ℕ} 0 1 = cc in absurd (omega arith)
+    go true s (Some r) q e =
         let same : guess l ≡ x = ap (λ o. (had o).0) e in
         let left : r ≡ rest = ap (λ o. (had o).1) e in
         record {
@@ -171,12 +171,12 @@ line_in_got l x rest e = go (fit (guess l)) (says_fit (guess l)) (after (record_
           text = after_got (record_line (guess l)) l r q ∙ (λ κ. record_line (same κ) ++ left κ);
         }
 
-pub line_in_none : (l : List ℕ) → ((x : Record) (rest : List ℕ) → ¬ LineFirst l x rest) → line_in l ≡ none
+pub line_in_none : (l : List ℕ) → ((x : Record) (rest : List ℕ) → ¬ LineFirst l x rest) → line_in l ≡ None
 line_in_none l f = go (line_in l) refl
   where
-    go : (o : Option (Record × List ℕ)) → line_in l ≡ o → line_in l ≡ none
-    go none e = e
-    go (some (x, rest)) e = absurd (f x rest (line_in_got l x rest e))
+    go : (o : Option (Record × List ℕ)) → line_in l ≡ o → line_in l ≡ None
+    go None e = e
+    go (Some (x, rest)) e = absurd (f x rest (line_in_got l x rest e))
 
 -- one record at most has its line there
 pub line_once : {l : List ℕ} {x y : Record} {rest rest' : List ℕ} → LineFirst l x rest → LineFirst l y rest' → (x ≡ y) × (rest ≡ rest')

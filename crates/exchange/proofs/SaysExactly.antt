@@ -1,9 +1,9 @@
 -- What import and export say and write is exactly what the request says. Assumes nothing.
+use Rattle.std.specs.Prelude.{None, Option, Some}
 use Prim.Native.Nat.{ℕ, ◌≤◌, ◌<◌}
 use mathlib.Core.Path.{◌≡◌, refl, sym, ◌∙◌, ap, subst}
 use mathlib.Core.Logic.{◌↔◌}
 use mathlib.Core.List.{List}
-use mathlib.Core.Option.{Option, none, some}
 use native.Mathlib.Omega.{arith}
 use native.Mathlib.Decide.{dec_lt}
 use lib.Dec.{leb}
@@ -36,11 +36,11 @@ module _ (b T : List ℕ) (room : ℕ) where
   by_file e = ap (λ r. import_of r T room) e
 
   module _ {ρ : Run} (e : read b ≡ whole ρ) where
-    by_line : {ν n : ℕ} → (table_read T).fault ≡ some (ν, n) → import_table b T room ≡ refused_with ν n
+    by_line : {ν n : ℕ} → (table_read T).fault ≡ Some (ν, n) → import_table b T room ≡ refused_with ν n
     unfolding import_table
     by_line q = ap (λ r. import_of r T room) e ∙ ap (λ o. import_if o (bytes (imported ρ (table_read T).records)) room) q
 
-    by_room : {xs : List Record} → table_read T ≡ all_taken xs → import_table b T room ≡ import_if none (bytes (imported ρ xs)) room
+    by_room : {xs : List Record} → table_read T ≡ all_taken xs → import_table b T room ≡ import_if None (bytes (imported ρ xs)) room
     unfolding import_table
     by_room q = ap (λ r. import_of r T room) e ∙ ap (λ t. import_if t.fault (bytes (imported ρ t.records)) room) q
 
@@ -58,8 +58,8 @@ module _ (b T : List ℕ) (room : ℕ) where
           subst (ImportSays b T room) (sym (by_room e q ∙ room_opens (bytes (imported ρ xs)) room l)) (ImportSays.taken e W t l)
 
       lines : {ρ : Run} → read b ≡ whole ρ → (o : Option (ℕ × ℕ)) → (table_read T).fault ≡ o → ImportSays b T room (import_table b T room)
-      lines {ρ} e (some p) q = subst (ImportSays b T room) (sym (by_line e q)) (ImportSays.line_refused e ((refused_exactly T p.0 p.1).0 q))
-      lines {ρ} e none q =
+      lines {ρ} e (Some p) q = subst (ImportSays b T room) (sym (by_line e q)) (ImportSays.line_refused e ((refused_exactly T p.0 p.1).0 q))
+      lines {ρ} e None q =
           let xs : List Record = (table_read T).records in
           let all : table_read T ≡ all_taken xs = λ κ. record { records = (table_read T).records; fault = q κ } in
           fits xs e all (dec_lt room (length (bytes (imported ρ xs))))

@@ -1,10 +1,10 @@
 -- A table is taken exactly if it is the table of records that can be taken, and refused exactly as the request says. Assumes nothing.
+use Rattle.std.specs.Prelude.{None, Option, Some}
 use Prim.Native.Nat.{ℕ, zero, suc, ◌+◌, ◌-◌, ◌≤◌, ◌<◌}
 use mathlib.Core.Path.{◌≡◌, refl, sym, ◌∙◌, ap, subst}
 use mathlib.Core.Logic.{◌↔◌}
 use mathlib.Core.Bool.{Bool, true, false}
 use mathlib.Core.List.{List, [], ◌∷◌, ◌++◌, append_assoc, append-nil}
-use mathlib.Core.Option.{Option, none, some}
 use native.Mathlib.Omega.{arith}
 use lib.ListN.{length, get_or, length-append, get_or-append}
 use lib.Seq.{get_or-append_seam}
@@ -59,7 +59,7 @@ module _ (T : List ℕ) where
   told_end : (n : ℕ) (xs : List Record) → Taken xs → T ≡ table_of xs ++ [] → Told T (lines_from n xs [])
   told_end n xs W e = subst (Told T) (sym (lines_end n xs)) (told_all W (e ∙ append-nil (table_of xs)))
 
-  told_bad : (n : ℕ) (xs : List Record) (c : ℕ) (l : List ℕ) → Taken xs → T ≡ table_of xs ++ (c ∷ l) → line_in (c ∷ l) ≡ none → Told T (lines_from n xs (c ∷ l))
+  told_bad : (n : ℕ) (xs : List Record) (c : ℕ) (l : List ℕ) → Taken xs → T ≡ table_of xs ++ (c ∷ l) → line_in (c ∷ l) ≡ None → Told T (lines_from n xs (c ∷ l))
   told_bad n xs c l W e q =
       subst (Told T) (sym (lines_bad n xs (c ∷ l) (omega arith) q))
       (told_stop xs (bad_line xs c l W e (λ x rest L. let z : ◌≡◌ {A = ℕ} 0 1 = cc (line_in_of L) in omega arith)))
@@ -70,8 +70,8 @@ module _ (T : List ℕ) where
   told zero xs (c ∷ l) h W e = go (line_in (c ∷ l)) refl
     where
       go : (o : Option (Record × List ℕ)) → line_in (c ∷ l) ≡ o → Told T (lines_from 0 xs (c ∷ l))
-      go none q = told_bad 0 xs c l W e q
-      go (some (x, rest)) q =
+      go None q = told_bad 0 xs c l W e q
+      go (Some (x, rest)) q =
           subst (Told T) (sym (lines_many xs (c ∷ l) (omega arith) q)) (told_stop xs (too_many xs x (c ∷ l) rest W e (line_in_got (c ∷ l) x rest q) (omega arith)))
   told (suc n) xs (c ∷ l) h W e = go (line_in (c ∷ l)) refl (λ x rest. told n (xs ++ (x ∷ [])) rest)
     where
@@ -79,8 +79,8 @@ module _ (T : List ℕ) where
           → ((x : Record) (rest : List ℕ) → n + length (xs ++ (x ∷ [])) ≡ most_records → Taken (xs ++ (x ∷ [])) → T ≡ table_of (xs ++ (x ∷ [])) ++ rest
           → Told T (lines_from n (xs ++ (x ∷ [])) rest))
           → Told T (lines_from (suc n) xs (c ∷ l))
-      go none q on = told_bad (suc n) xs c l W e q
-      go (some (x, rest)) q on = by (given (job_of x) xs) refl (says_given (job_of x) xs)
+      go None q on = told_bad (suc n) xs c l W e q
+      go (Some (x, rest)) q on = by (given (job_of x) xs) refl (says_given (job_of x) xs)
         where
           L : LineFirst (c ∷ l) x rest
           L = line_in_got (c ∷ l) x rest q
@@ -96,10 +96,10 @@ module _ (T : List ℕ) where
   table_told = go (after header T) refl
     where
       go : (o : Option (List ℕ)) → after header T ≡ o → Told T (table_read T)
-      go none q =
+      go None q =
           subst (Told T) (sym (read_headless T q))
           (told_stop [] (no_header (λ rest e. let z : ◌≡◌ {A = ℕ} 0 1 = cc (after_is header rest) in omega arith)))
-      go (some l) q =
+      go (Some l) q =
           subst (Told T) (sym (read_headed T l q))
           (told most_records [] l (omega arith) taken_none (after_got header T l q ∙ ap (λ m. m ++ l) (sym (append-nil header))))
 
@@ -162,19 +162,19 @@ module _ (T : List ℕ) where
           reached (most_records - length xs) xs [] (omega (arith, W.few)) W (e ∙ sym (append-nil (table_of xs))) ∙ lines_end (most_records - length xs) xs
 
   -- A table is refused with a number at a line exactly when the request says so.
-  pub refused_exactly : (ν n : ℕ) → ((table_read T).fault ≡ some (ν, n)) ↔ RefusesAt T ν n
+  pub refused_exactly : (ν n : ℕ) → ((table_read T).fault ≡ Some (ν, n)) ↔ RefusesAt T ν n
   refused_exactly ν n = (λ e. to (table_read T) (table_told T) e, from)
     where
-      to : (r : TableRead) → Told T r → r.fault ≡ some (ν, n) → RefusesAt T ν n
+      to : (r : TableRead) → Told T r → r.fault ≡ Some (ν, n) → RefusesAt T ν n
       to r (told_all W q) e = let z : ◌≡◌ {A = ℕ} 0 1 = cc in absurd (omega arith)
       to r (told_stop {ν = μ} {line = m} ys R) e = let p : ◌≡◌ {A = ℕ × ℕ} (μ, m) (ν, n) = cc in subst (λ q. RefusesAt T q.0 q.1) p R
 
-      from : {ν n : ℕ} → RefusesAt T ν n → (table_read T).fault ≡ some (ν, n)
+      from : {ν n : ℕ} → RefusesAt T ν n → (table_read T).fault ≡ Some (ν, n)
       from (no_header f) = ap (λ t. t.fault) (read_headless T (headless (after header T) refl))
         where
-          headless : (o : Option (List ℕ)) → after header T ≡ o → after header T ≡ none
-          headless none q = q
-          headless (some l) q = absurd (f l (after_got header T l q))
+          headless : (o : Option (List ℕ)) → after header T ≡ o → after header T ≡ None
+          headless None q = q
+          headless (Some l) q = absurd (f l (after_got header T l q))
       from (bad_line xs c l W e f) =
           let k : ℕ = most_records - length xs in
           ap (λ t. t.fault) (reached k xs (c ∷ l) (omega (arith, W.few)) W e ∙ lines_bad k xs (c ∷ l) (omega arith) (line_in_none (c ∷ l) f))

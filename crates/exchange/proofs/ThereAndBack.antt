@@ -1,9 +1,9 @@
 -- Import of export gives the same file back. Assumes that the file is a list of bytes.
+use Rattle.std.specs.Prelude.{None}
 use Prim.Native.Nat.{ℕ, ◌≤◌, ◌<◌}
 use mathlib.Core.Path.{◌≡◌, refl, sym, ◌∙◌, ap}
 use mathlib.Core.Logic.{inl, inr}
 use mathlib.Core.List.{List, map}
-use mathlib.Core.Option.{none}
 use native.Mathlib.Omega.{arith}
 use native.Mathlib.Decide.{dec_lt}
 use lib.ListN.{length}
@@ -66,7 +66,7 @@ module _ (b : List ℕ) (B : Bytes b) (ρ : Run) (reads : read b ≡ whole ρ) (
       let same : bytes (imported ρ (map (rec ρ) (by_start ρ))) ≡ b = ap bytes back ∙ bytes_back b B ρ reads in
       ap (λ r. import_of r (exported ρ) room) reads
       ∙ ap (λ r. import_if r.fault (bytes (imported ρ r.records)) room) table_back
-      ∙ ap (λ out. import_if none out room) same
+      ∙ ap (λ out. import_if None out room) same
       ∙ gate_opens 11 _ _ _ (says_true (says_leb (length b) room) fits) refl
 
   pub export_given_room : (room : ℕ) → length (exported ρ) ≤ room → export_file b room ≡ written_out (exported ρ)

@@ -1,6 +1,5 @@
 -- Document 02, request 1: import. It takes a run file's setting and tasks and a table, and writes a run file.
-use Rattle.std.specs.Prelude.{ℕ, ◌≤◌, ◌<◌, ◌≡◌, ◌⊎◌, Bool, ◌&&◌, ◌||◌, List, leb, ltb, eqb, length}
-use Rattle.std.proofs.Math.Option.{Option, none, some}
+use Rattle.std.specs.Prelude.{ℕ, ◌≤◌, ◌<◌, ◌≡◌, ◌⊎◌, Bool, ◌&&◌, ◌||◌, List, leb, ltb, eqb, length, None, Option, Some}
 use Rattle.model.specs.declared.record.Record.{Record}
 use Rattle.model.specs.Model.{Run}
 use Rattle.model.specs.File.{Read, refused, whole, read, bytes}
@@ -23,8 +22,8 @@ imported ρ xs = record { setting = ρ.setting; tasks = ρ.tasks; records = sort
 
 -- Refusals, after the file's own: those of the lines; 11 comes last.
 abbrev pub import_if : Option (ℕ × ℕ) → List ℕ → ℕ → Outcome
-import_if (some p) out room = refused_with p.0 p.1
-import_if none out room = gate_outcome 11 (leb (length out) room) (written_out out)
+import_if (Some p) out room = refused_with p.0 p.1
+import_if None out room = gate_outcome 11 (leb (length out) room) (written_out out)
 
 abbrev pub import_of : Read → List ℕ → ℕ → Outcome
 import_of (refused ν i) T room = refused_with ν i

@@ -1,15 +1,14 @@
 -- The record whose line stands first in a text, computed: read the numbers without looking, write their line, and see whether the text has
 -- it. What is found is what `LineFirst` says (law `line-in`).
-use Rattle.std.specs.Prelude.{ℕ, ◌+◌, ◌-◌, ◌*◌, Bool, true, false, ◌&&◌, List, [], ◌∷◌, ltb, eqb}
-use Rattle.std.proofs.Math.Option.{Option, none, some}
+use Rattle.std.specs.Prelude.{ℕ, ◌+◌, ◌-◌, ◌*◌, Bool, true, false, ◌&&◌, List, [], ◌∷◌, ltb, eqb, None, Option, Some}
 use Rattle.model.specs.declared.record.Record.{Record}
 use Rattle.exchange.specs.RecordLine.{record_line}
 
 -- the rest of a text that begins with another
 unfoldable pub after : List ℕ → List ℕ → Option (List ℕ)
-after [] l = some l
-after (c ∷ p) [] = none
-after (c ∷ p) (d ∷ l) = elim (eqb c d) [ true ↦ after p l | false ↦ none ]
+after [] l = Some l
+after (c ∷ p) [] = None
+after (c ∷ p) (d ∷ l) = elim (eqb c d) [ true ↦ after p l | false ↦ None ]
 
 -- a number with the bytes up to the first below '0' as its further digits, and the rest behind that byte
 unfoldable pub digits_on : ℕ → List ℕ → ℕ × List ℕ
@@ -40,9 +39,9 @@ fit x =
     && (four_bytes x.job && (four_bytes x.release && (four_bytes x.start && (four_bytes x.end && four_bytes x.core))))
 
 abbrev pub line_if : Bool → Record → Option (List ℕ) → Option (Record × List ℕ)
-line_if true x (some rest) = some (x, rest)
-line_if true x none = none
-line_if false x o = none
+line_if true x (Some rest) = Some (x, rest)
+line_if true x None = None
+line_if false x o = None
 
 unfoldable pub line_in : List ℕ → Option (Record × List ℕ)
 line_in l = line_if (fit (guess l)) (guess l) (after (record_line (guess l)) l)

@@ -1,6 +1,5 @@
 -- Document 02, request 1: what is read of a table. Each line is judged in turn before the next line is read.
-use Rattle.std.specs.Prelude.{ℕ, zero, suc, ◌+◌, ◌<◌, ◌≤◌, ◌≡◌, Bool, true, false, List, [], ◌∷◌, ◌++◌, length, get_or}
-use Rattle.std.proofs.Math.Option.{Option, none, some}
+use Rattle.std.specs.Prelude.{ℕ, zero, suc, ◌+◌, ◌<◌, ◌≤◌, ◌≡◌, Bool, true, false, List, [], ◌∷◌, ◌++◌, length, get_or, None, Option, Some}
 use Rattle.base.specs.Find.{first, found}
 use Rattle.model.specs.declared.record.Record.{Record}
 use Rattle.model.specs.Model.{Job, job_of, most_records, no_record, same_job}
@@ -47,10 +46,10 @@ pub record TableRead : Type 0 where
   pub fault : Option (ℕ × ℕ)
 
 abbrev pub all_taken : List Record → TableRead
-all_taken xs = record { records = xs; fault = none }
+all_taken xs = record { records = xs; fault = None }
 
 abbrev pub stops_at : ℕ → ℕ → List Record → TableRead
-stops_at ν line xs = record { records = xs; fault = some (ν, line) }
+stops_at ν line xs = record { records = xs; fault = Some (ν, line) }
 
 unfoldable pub given : Job → List Record → Bool
 given q xs = found (first (λ k. same_job (job_of (get_or xs k no_record)) q) 0 (length xs))
@@ -58,14 +57,14 @@ given q xs = found (first (λ k. same_job (job_of (get_or xs k no_record)) q) 0 
 -- the lines of a text, where the records xs were taken before them and n more may be
 unfoldable pub lines_from : ℕ → List Record → List ℕ → TableRead
 lines_from zero xs [] = all_taken xs
-lines_from zero xs (c ∷ l) = elim (line_in (c ∷ l)) [ none ↦ stops_at 12 (line_number xs) xs | some p ↦ stops_at 7 0 xs ]
+lines_from zero xs (c ∷ l) = elim (line_in (c ∷ l)) [ None ↦ stops_at 12 (line_number xs) xs | Some p ↦ stops_at 7 0 xs ]
 lines_from (suc n) xs [] = all_taken xs
 lines_from (suc n) xs (c ∷ l) =
     elim (line_in (c ∷ l)) [
-      | none ↦ stops_at 12 (line_number xs) xs
-      | some p ↦
+      | None ↦ stops_at 12 (line_number xs) xs
+      | Some p ↦
           elim (given (job_of p.0) xs) [ true ↦ stops_at 13 (line_number xs) xs | false ↦ lines_from n (xs ++ (p.0 ∷ [])) p.1 ]
     ]
 
 unfoldable pub table_read : List ℕ → TableRead
-table_read T = elim (after header T) [ none ↦ stops_at 12 1 [] | some l ↦ lines_from most_records [] l ]
+table_read T = elim (after header T) [ None ↦ stops_at 12 1 [] | Some l ↦ lines_from most_records [] l ]

@@ -7,12 +7,10 @@ ghost use Rattle.exchange.specs.RecordLine.{header};
 
 pub const HEADER_SIZE: usize = 32;
 
-pub const HEADER: [u8; HEADER_SIZE] = [
-    116, 97, 115, 107, 44, 106, 111, 98, 44, 114, 101, 108, 101, 97, 115, 101, 44, 115, 116, 97,
-    114, 116, 44, 101, 110, 100, 44, 99, 111, 114, 101, 10,
-];
+pub const HEADER: [u8; HEADER_SIZE] = *b"task,job,release,start,end,core\n";
 
 // The header line.
+#[tactic(auto, unfolding(crate::specs::RecordLine::header))]
 pub fn header_line() -> [u8; HEADER_SIZE]
     ensures { result ≡ header }
 {

@@ -1,7 +1,10 @@
 -- The bytes of a line and of a table: six numbers are a line, a table with one line more, and one of the first lines of an order. Assumes
 -- nothing.
-use Prim.Native.Nat.{ℕ, ◌+◌, ◌≤◌, ◌<◌}
-use mathlib.Core.Path.{◌≡◌, sym, ◌∙◌, ap}
+use Rattle.std.specs.List.{sum_by, range_with_len}
+use Rattle.std.proofs.lemmas.List.Sums.{sum_by-cons}
+use Rattle.std.proofs.lemmas.List.FromFn.{length-range_with_len}
+use Prim.Native.Nat.{ℕ, zero, suc, ◌+◌, ◌*◌, ◌≤◌, ◌<◌}
+use mathlib.Core.Path.{◌≡◌, refl, sym, ◌∙◌, ap}
 use mathlib.Core.List.{List, [], ◌∷◌, ◌++◌, map, map-append, append_assoc, append-nil}
 use native.Mathlib.Numerals.{add-one}
 use native.Mathlib.Omega.{arith}
@@ -9,12 +12,11 @@ use lib.ListN.{length, get_or, take, drop, length-append, take-append-drop}
 use lib.Seq.{take-suc, take-length}
 use Rattle.model.specs.declared.record.Record.{Record}
 use Rattle.model.specs.Calls.{front}
-use Rattle.model.specs.File.{joined, record_at, record_size}
+use Rattle.model.specs.File.{joined, record_size}
 use Rattle.model.specs.Report.{decimal}
-use Rattle.model.proofs.Joined.{joined_append, joined_on}
-use Rattle.model.proofs.Reading.{entries_on}
+use Rattle.model.proofs.Joined.{joined_append}
 use Rattle.exchange.specs.RecordLine.{header, record_line, table_of}
-use Rattle.exchange.proofs.LineLaws.{length-header}
+use Rattle.exchange.proofs.LineLaws.{length-header, length-line}
 use Rattle.text.specs.Paste.{pasted, Wrote}
 use Rattle.text.proofs.Paste.{wrote_more}
 use Rattle.exportfile.specs.LinesOf.{record_of, records_at, lines_by, table_by}
@@ -48,13 +50,30 @@ pub table_size : (xs : List Record) → length (table_of xs) ≡ 32 + length (jo
 table_size xs = omega (arith, length-append header (joined record_line xs), length-header)
 
 module _ (b : List ℕ) (at : ℕ) where
-  pub records_on : (k : ℕ)
-      → length (table_of (records_at b at (k + 1))) ≡ length (table_of (records_at b at k)) + length (record_line (record_of b at k))
-  records_on k =
-      let lines = joined record_line (records_at b at k) in
-      let e = ap (joined record_line) (entries_on (record_at b) record_size at k) ∙ joined_on record_line (records_at b at k) (record_of b at k) in
+  -- how long the line of a record is
+  abbrev pub line_long : ℕ → ℕ
+  line_long k = length (record_line (record_of b at k))
+
+  lines_from : (j n : ℕ) → sum_by line_long (range_with_len j n) ≡ length (joined record_line (records_at b (at + record_size * j) n))
+  lines_from j zero = refl
+  lines_from j (suc n) =
+      let next : at + record_size * (j + 1) ≡ at + record_size * j + record_size = omega arith in
+      let rest = records_at b (at + record_size * j + record_size) n in
+      let more = lines_from (j + 1) n ∙ ap (λ i. length (joined record_line (records_at b i n))) next in
       omega
-      (arith, ap length e, length-append lines (record_line (record_of b at k)), table_size (records_at b at k), table_size (records_at b at (k + 1)))
+      (arith, sum_by-cons line_long j (range_with_len (j + 1) n), more, length-append (record_line (record_of b at j)) (joined record_line rest))
+
+  pub lines_long : (n : ℕ) → 32 + sum_by line_long (range_with_len 0 n) ≡ length (table_of (records_at b at n))
+  lines_long n =
+      let here : at + record_size * 0 ≡ at = omega arith in
+      omega (arith, lines_from 0 n ∙ ap (λ i. length (joined record_line (records_at b i n))) here, table_size (records_at b at n))
+
+  lines_short : (ks : List ℕ) → sum_by line_long ks ≤ 66 * length ks
+  lines_short [] = omega arith
+  lines_short (k ∷ ks) = omega (arith, sum_by-cons line_long k ks, lines_short ks, length-line (record_of b at k))
+
+  pub lines_few : (n : ℕ) → sum_by line_long (range_with_len 0 n) ≤ 66 * n
+  lines_few n = omega (arith, lines_short (range_with_len 0 n), length-range_with_len 0 n)
 
   lines_append : (xs ys : List ℕ) → lines_by b at (xs ++ ys) ≡ lines_by b at xs ++ lines_by b at ys
   lines_append xs ys =

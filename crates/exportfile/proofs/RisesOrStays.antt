@@ -1,16 +1,17 @@
--- Whether records rise strictly: of two by their numbers, of those of a file record by record, and of the run that the file tells.
+-- Whether records rise strictly: of those of a file record by record, and of the run that the file tells.
 -- Assumes nothing.
+use Rattle.std.specs.List.{IsAllAdjacentAnswer}
 use Prim.Native.Nat.{ℕ, suc, ◌+◌, ◌-◌, ◌≤◌, ◌<◌}
-use mathlib.Core.Path.{◌≡◌, sym, ◌∙◌, ap}
-use mathlib.Core.Bool.{Bool, true, false, not}
+use mathlib.Core.Path.{◌≡◌, refl, sym, ◌∙◌, ap}
+use mathlib.Core.Bool.{Bool, true, false, not, true≢false}
 use mathlib.Core.List.{List}
 use native.Mathlib.Numerals.{add-one}
 use native.Mathlib.Omega.{arith}
-use lib.Dec.{ltb}
+use lib.ListN.{length, get_or}
 use Rattle.base.specs.Find.{first, found}
-use Rattle.base.proofs.Loop.{NoneTo, first_hit, first_miss}
+use Rattle.base.proofs.Find.{Answer, answer}
+use Rattle.base.proofs.Loop.{first_miss}
 use Rattle.base.proofs.Same.{first_same}
-use Rattle.base.proofs.Test.{says_ltb, says_eqb, says_true, says_false}
 use Rattle.model.specs.declared.record.Record.{Record}
 use Rattle.model.specs.Model.{Run, rec}
 use Rattle.exchange.specs.Import.{job_before}
@@ -20,26 +21,29 @@ use Rattle.openfile.specs.Head.{Tells}
 use Rattle.openfile.proofs.WholeOrRefused.{tells_count, tells_record}
 use Rattle.exportfile.specs.LinesOf.{record_of, stays, rises_at}
 
--- of one task it is by job
-pub before_by_job : (x y : Record) → x.task ≡ y.task → job_before x y ≡ ltb x.job y.job
-unfolding job_before
-before_by_job x y e = rw (says_false (says_ltb x.task y.task) (λ h. omega arith), says_true (says_eqb x.task y.task) e)
-
-module _ (b : List ℕ) (at : ℕ) where
-  -- what the test of two neighbours says
-  pub stays_is : {x y : Record} {t : Bool} (k : ℕ) → t ≡ job_before x y → x ≡ record_of b at k → y ≡ record_of b at (k + 1)
+-- The first records of those that begin at a place, of which each goes before the next or one does not.
+module _ (b : List ℕ) (at : ℕ) (xs : List Record) (d : Record) (is : (k : ℕ) → k < length xs → get_or xs k d ≡ record_of b at k) where
+  neighbours : (k : ℕ) → k + 1 < length xs → {t : Bool} → job_before (get_or xs k d) (get_or xs (k + 1) d) ≡ t
       → stays b at k ≡ not t
   unfolding stays
-  stays_is k e p q = sym (ap not (e ∙ (λ κ. job_before (p κ) (q κ))))
+  neighbours k l e =
+      let p = is k (omega arith) in
+      let q = is (k + 1) l in
+      ap not ((λ κ. job_before (sym p κ) (sym q κ)) ∙ e)
 
-  -- each goes before the next up to here, and this one does not; or up to the last
-  pub rises_not : {n k : ℕ} → NoneTo (stays b at) 0 k → k + 1 < n → stays b at k ≡ true → false ≡ rises_at b at n
+  pub rise_said : (n : ℕ) (r : Bool) → length xs ≤ n → (r ≡ true → length xs ≡ n) → IsAllAdjacentAnswer (λ x y t. job_before x y ≡ t) xs r
+      → r ≡ rises_at b at n
   unfolding rises_at
-  rises_not {n} {k} N h e = ap (λ o. not (found o)) (first_hit (stays b at) 0 (n - 1) (omega arith) (omega arith) N e)
-
-  pub rises_all : {n k : ℕ} → NoneTo (stays b at) 0 k → n ≤ k + 1 → true ≡ rises_at b at n
-  unfolding rises_at
-  rises_all {n} {k} N h = ap (λ o. not (found o)) (first_miss (stays b at) 0 (n - 1) (omega arith) N)
+  rise_said n true few all h =
+      let long = all refl in
+      ap (λ o. not (found o))
+      (first_miss (stays b at) 0 (n - 1) {k = n - 1} (omega arith)
+      (record { below = λ j u v. neighbours j (omega arith) (h j d (omega arith)) }))
+  rise_said n false few all (k, l, h) = go (answer (stays b at) (n - 1) 0)
+    where
+      go : Answer (stays b at) 0 (n - 1) → false ≡ not (found (first (stays b at) 0 (n - 1)))
+      go (Answer.nothing q g) = absurd (true≢false (sym (neighbours k l (h d)) ∙ g k (omega arith) (omega arith)))
+      go (Answer.finds j q u v e g) = ap (λ o. not (found o)) (sym q)
 
 module _ {b : List ℕ} {h : Head} {ρ : Run} (T : Tells b h ρ) where
   pub rise_told : rises_at b h.records_at h.records ≡ rise ρ

@@ -20,12 +20,8 @@ fn fill_starts(file: &[u8], at: u32, keys: &mut [u64])
     requires { length keys.old ≤ most_records }
     ensures { Fills keys.old 0 (length keys.old) (start_of file.now at) keys.new }
 {
-    let n = keys.len();
-    let mut k = 0;
-    while k < n {
-        let x = record_at(file, at, k as u32);
-        keys[k] = x.start as u64;
-        k += 1;
+    for (k, key) in keys.iter_mut().enumerate() {
+        *key = u64::from(record_at(file, at, k as u32).start);
     }
 }
 

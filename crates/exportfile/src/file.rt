@@ -1,39 +1,40 @@
 // What an export of a file says, and what it writes.
-ghost use Rattle.model.specs.Answers.{five_of};
-ghost use Rattle.model.specs.Model.{Run};
-ghost use Rattle.openfile.specs.Head.{Tells};
+ghost use Rattle.model.specs.Answers.{five_of, five_written};
 ghost use Rattle.exportfile.specs.LinesOf.{Exports};
 
 use crate::by_start::write_table;
 use crate::lines::table_size;
 use crate::rising::records_rise;
-use model::Answer;
-use openfile::{Head, Opened, open_file};
+use model::{Answer, Refusal};
+use openfile::{OpenFile, opened};
 
-// The table of a file that is whole: 14, 11, or it is written.
-fn export_whole(file: &[u8], head: Head, output: &mut [u8]) -> Answer
-    requires { (ρ : Run) × Tells file.now head ρ }
-    ensures { Exports file.now output.old (five_of result) output.new }
+// The table of a file that tells a run: 14, 11, or it is written.
+fn export_run(o: OpenFile, output: &mut [u8]) -> Result<u32, Refusal>
+    ensures { Exports o.entry.file.now output.old (five_written result) output.new }
 {
-    let rising = records_rise(file, head.records_at, head.records);
+    let rising = records_rise(o.file, o.head.records_at, o.head.records);
     if !rising {
-        return Answer::Refused(14, 0);
+        return Err(Refusal::NotRising);
     }
-    let size = table_size(file, head.records_at, head.records);
+    let size = table_size(o.file, o.head.records_at, o.head.records);
     let fits = size <= output.len();
     if !fits {
-        return Answer::Refused(11, 0);
+        return Err(Refusal::NoRoom);
     }
-    write_table(file, head.records_at, head.records, output);
-    Answer::Written(size as u32)
+    write_table(o.file, o.head.records_at, o.head.records, output);
+    Ok(size as u32)
 }
 
 // The table of any file: its own refusals, 14, 11, or it is written.
+fn export(file: &[u8], output: &mut [u8]) -> Result<u32, Refusal>
+    ensures { Exports file.now output.old (five_written result) output.new }
+{
+    export_run(opened(file)?, output)
+}
+
+// What is said of the table of any file.
 pub fn export_file(file: &[u8], output: &mut [u8]) -> Answer
     ensures { Exports file.now output.old (five_of result) output.new }
 {
-    match open_file(file) {
-        Opened::Refused(number, task) => Answer::Refused(number, task),
-        Opened::Whole(head) => export_whole(file, head, output),
-    }
+    Answer::from(export(file, output))
 }

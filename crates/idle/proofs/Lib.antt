@@ -1,5 +1,6 @@
 pub mod FirstFrom
 pub mod Busy
-pub mod Stretches
+pub mod Ranges
+pub mod Begun
 pub mod Idle
 pub mod Once

@@ -1,6 +1,5 @@
 -- What rule 8 asks of the columns: the least record that waits while a core idles, the least such instant, the least such core.
-use Rattle.std.specs.Prelude.{ℕ, ◌+◌, ◌-◌, ◌≤◌, ◌<◌, ◌≡◌, Bool, true, false, not, ◌&&◌, List, [], ◌∷◌, leb, ltb, eqb, length, get_or}
-use Rattle.std.proofs.Math.Option.{Option}
+use Rattle.std.specs.Prelude.{ℕ, ◌+◌, ◌-◌, ◌≤◌, ◌<◌, ◌≡◌, Bool, true, false, not, ◌&&◌, List, [], ◌∷◌, leb, ltb, eqb, length, get_or, Option}
 use Rattle.base.specs.Columns.{Beside}
 use Rattle.base.specs.Find.{first, first_of, found}
 use Rattle.model.specs.Model.{most_cores}

@@ -10,52 +10,59 @@ mod wait;
 ghost use Rattle.std.specs.Prelude.{◌≡◌, [], ◌∷◌, ◌≤◌, length};
 ghost use Rattle.base.specs.Columns.{Columns};
 ghost use Rattle.model.specs.Model.{most_cores, most_records};
-ghost use Rattle.base.specs.Find.{seen_three, first_of};
+ghost use Rattle.base.specs.Find.{first_of};
 ghost use Rattle.idle.specs.Idle.{idle_in};
 
-use base::{FoundThree, FoundTwo};
+use running::Records;
 use table::{FEW, MOST};
 use until::{all_begun, idle_until};
 use wait::first_idle;
 
-// Rule 8, with room for one instant a record.
-fn idle_over(
+// Rule 8, with room for the instants of so many records.
+fn idle_over<const ROOM: usize>(
+    cores: u32,
+    ready: &[u32],
+    records: Records<'_>,
+) -> Option<(u32, (u32, u32))>
+    requires { (cores ≤ most_cores) × Columns most_records records.start.now (ready.now ∷ []) × (length records.start.now ≤ ROOM) × (ROOM ≤ most_records) }
+    ensures { result
+        ≡ first_of (idle_in records.entry.start.now records.entry.end.now records.entry.core.now cores ready.now)
+        0 (length records.entry.start.now) }
+{
+    let mut until = [0u32; ROOM];
+    idle_until(records, cores, &mut until);
+    let begun = all_begun(records, cores);
+    for a in 0..ready.len() {
+        if let Some((t, c)) = first_idle(
+            records,
+            cores,
+            ready[a],
+            records.start[a],
+            begun,
+            &until,
+        ) {
+            return Some((a as u32, (t, c)));
+        }
+    }
+    None
+}
+
+// Rule 8. No idling.
+pub fn idle_place(
     cores: u32,
     ready: &[u32],
     start: &[u32],
     end: &[u32],
     core: &[u32],
-    until: &mut [u32],
-) -> FoundThree
-    requires { (cores ≤ most_cores) × Columns most_records start.now (end.now ∷ core.now ∷ ready.now ∷ []) × (length start.now ≤ length until.old) }
-    ensures { seen_three result
-        ≡ first_of (idle_in start.now end.now core.now cores ready.now) 0 (length start.now) }
-{
-    let n = start.len();
-    idle_until(cores, start, end, core, until);
-    let begun = all_begun(cores, start, end, core);
-    let mut a = 0;
-    while a < n {
-        if let FoundTwo::At(t, c) = first_idle(
-            cores, ready[a], start[a], begun, start, end, core, until,
-        ) {
-            return FoundThree::At(a as u32, t, c);
-        }
-        a += 1;
-    }
-    FoundThree::Nothing
-}
-
-// Rule 8. No idling.
-pub fn idle_place(cores: u32, ready: &[u32], start: &[u32], end: &[u32], core: &[u32]) -> FoundThree
+) -> Option<(u32, (u32, u32))>
     requires { (cores ≤ most_cores) × Columns most_records start.now (end.now ∷ core.now ∷ ready.now ∷ []) }
-    ensures { seen_three result
+    ensures { result
         ≡ first_of (idle_in start.now end.now core.now cores ready.now) 0 (length start.now) }
 {
+    let records = Records { start, end, core };
     if start.len() <= FEW {
-        let mut few = [0u32; FEW];
-        return idle_over(cores, ready, start, end, core, &mut few);
+        idle_over::<FEW>(cores, ready, records)
+    } else {
+        idle_over::<MOST>(cores, ready, records)
     }
-    let mut until = [0u32; MOST];
-    idle_over(cores, ready, start, end, core, &mut until)
 }

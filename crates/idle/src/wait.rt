@@ -1,12 +1,11 @@
 // The least instant of a wait at which a core idles.
 ghost use Rattle.std.specs.Prelude.{◌≡◌, ◌-◌, ◌≤◌, length};
-ghost use Rattle.base.specs.Find.{seen_two, first_of};
+ghost use Rattle.base.specs.Find.{first_of};
 ghost use Rattle.idle.specs.FirstFrom.{FirstFrom};
 ghost use Rattle.idle.specs.Idle.{idle_core_in, Stretches, Prepared};
 
 use crate::instant::{NEVER, first_within};
-use crate::running::idle_core;
-use base::{Found, FoundTwo, sooner};
+use crate::running::Records;
 
 // The first instant from `from` on that lies between the end of a record and the instant until which its core then idles.
 fn least_idle(from: u32, end: &[u32], until: &[u32]) -> u32
@@ -14,10 +13,8 @@ fn least_idle(from: u32, end: &[u32], until: &[u32]) -> u32
     ensures { FirstFrom (Stretches end.now until.now (length end.now)) from result }
 {
     let mut least = NEVER;
-    let mut k = 0;
-    while k < end.len() {
-        least = sooner(least, first_within(from, end[k], until[k]));
-        k += 1;
+    for k in 0..end.len() {
+        least = least.min(first_within(from, end[k], until[k]));
     }
     least
 }
@@ -25,30 +22,27 @@ fn least_idle(from: u32, end: &[u32], until: &[u32]) -> u32
 // The least instant of a wait at which a core idles, and that core. Where some core has not begun yet, it idles at the wait's first instant;
 // else each core that idles does so after the end of a record.
 pub(crate) fn first_idle(
+    records: Records<'_>,
     cores: u32,
     from: u32,
     to: u32,
     begun: u32,
-    start: &[u32],
-    end: &[u32],
-    core: &[u32],
     until: &[u32],
-) -> FoundTwo
-    requires { Prepared start.now end.now core.now cores begun until.now }
-    ensures { seen_two result ≡ first_of (idle_core_in start.now end.now core.now cores) from (to - from) }
+) -> Option<(u32, u32)>
+    requires { Prepared records.start.now records.end.now records.core.now cores begun until.now }
+    ensures { result
+        ≡ first_of (idle_core_in records.entry.start.now records.entry.end.now records.entry.core.now cores) from (to - from) }
 {
     if to <= from {
-        return FoundTwo::Nothing;
+        return None;
     }
-    let mut least = from;
-    if begun <= from {
-        least = least_idle(from, end, until);
-    }
+    let least = if begun <= from {
+        least_idle(from, records.end, until)
+    } else {
+        from
+    };
     if to <= least {
-        return FoundTwo::Nothing;
+        return None;
     }
-    if let Found::At(c) = idle_core(cores, least, start, end, core) {
-        return FoundTwo::At(least, c);
-    }
-    FoundTwo::Nothing
+    records.idle_core(cores, least).map(|c| (least, c))
 }

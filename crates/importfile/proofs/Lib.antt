@@ -1,3 +1,3 @@
-pub mod InRows
+pub mod InOrder
 pub mod WaysOfImport
 pub mod Once

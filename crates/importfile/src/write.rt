@@ -1,80 +1,42 @@
 // The file of an import, written: the setting and the tasks of a file, and the records of the lines in rising order.
-ghost use Rattle.std.specs.Prelude.{◌≡◌, List, [], ◌∷◌, length};
-ghost use Rattle.base.specs.Columns.{Columns};
+ghost use Rattle.std.specs.Prelude.{◌≡◌, ◌*◌, ◌≤◌, length};
 ghost use Rattle.exchange.specs.Import.{imported};
 ghost use Rattle.model.specs.Calls.{front};
-ghost use Rattle.model.specs.declared.record.Record.{Record as RecordValue};
 ghost use Rattle.model.specs.File.{bytes};
-ghost use Rattle.model.specs.Model.{Run, most_records};
-ghost use Rattle.table.specs.Table.{Sized};
+ghost use Rattle.model.specs.Model.{most_records};
+ghost use Rattle.openfile.specs.Head.{run_in};
+ghost use Rattle.table.specs.Table.{columns};
 ghost use Rattle.importfile.specs.Importable.{Importable};
 
 use crate::rows::{lay_out, order_rows};
-use openfile::Head;
-use table::{COLUMNS, FEW, MOST};
+use model::Record;
+use openfile::OpenFile;
+use table::{COLUMNS, FEW, FEW_NUMBERS, MOST_NUMBERS};
 use tasklist::tasks_of;
 use writing::write_run;
 
-// With columns for the records, and a table.
-fn write_with(
-    file: &[u8],
-    head: Head,
-    rows: &[u32],
-    keys: &mut [u64],
-    order: &mut [u32],
-    spare: &mut [u32],
-    t: &mut [u32],
-    output: &mut [u8],
-)
-    requires { Columns most_records order.old (spare.old ∷ keys.old ∷ []) × Sized t.old (length order.old)
-        × ((ρ : Run) × (xs : List RecordValue) × Importable file.now head rows.now (length order.old) (length output.old) ρ xs) }
-    ensures { (ρ : Run) (xs : List RecordValue)
-        → Importable file.now head rows.now (length order.old) (length output.old) ρ xs
-        → output.new ≡ front (bytes (imported ρ xs)) output.old }
+// With a table of N numbers.
+fn write_with<const N: usize>(o: OpenFile, rows: &mut [Record], output: &mut [u8])
+    requires { (columns * length rows.old ≤ N) × (N ≤ columns * most_records)
+        × Importable o.file.now o.head rows.old (length output.old) (run_in o.file.now) }
+    ensures { output.new ≡ front (bytes (imported (run_in o.entry.file.now) rows.old)) output.old }
 {
-    let n = order.len();
-    let setting = head.setting;
-    order_rows(rows, keys, order, spare);
-    lay_out(rows, order, t);
-    let tasks = tasks_of(file, head);
-    write_run(head, setting.horizon, tasks, t, n, output);
+    let n = rows.len();
+    let mut numbers = [0u32; N];
+    let t = &mut numbers[..COLUMNS * n];
+    order_rows(rows);
+    lay_out(rows, t);
+    write_run(o.head, o.head.setting.horizon, tasks_of(o), t, n, output);
 }
 
-// A small import has small columns and a small table.
-pub(crate) fn write_import(file: &[u8], head: Head, rows: &[u32], n: usize, output: &mut [u8])
-    requires { (ρ : Run) × (xs : List RecordValue) × Importable file.now head rows.now n (length output.old) ρ xs }
-    ensures { (ρ : Run) (xs : List RecordValue) → Importable file.now head rows.now n (length output.old) ρ xs
-        → output.new ≡ front (bytes (imported ρ xs)) output.old }
+// A small import has a small table.
+pub(crate) fn write_import(o: OpenFile, rows: &mut [Record], output: &mut [u8])
+    requires { Importable o.file.now o.head rows.old (length output.old) (run_in o.file.now) }
+    ensures { output.new ≡ front (bytes (imported (run_in o.entry.file.now) rows.old)) output.old }
 {
-    if n <= FEW {
-        let mut keys = [0u64; FEW];
-        let mut order = [0u32; FEW];
-        let mut spare = [0u32; FEW];
-        let mut t = [0u32; COLUMNS * FEW];
-        write_with(
-            file,
-            head,
-            rows,
-            &mut keys[..n],
-            &mut order[..n],
-            &mut spare[..n],
-            &mut t[..COLUMNS * n],
-            output,
-        );
-        return;
+    if rows.len() <= FEW {
+        write_with::<FEW_NUMBERS>(o, rows, output);
+    } else {
+        write_with::<MOST_NUMBERS>(o, rows, output);
     }
-    let mut keys = [0u64; MOST];
-    let mut order = [0u32; MOST];
-    let mut spare = [0u32; MOST];
-    let mut t = [0u32; COLUMNS * MOST];
-    write_with(
-        file,
-        head,
-        rows,
-        &mut keys[..n],
-        &mut order[..n],
-        &mut spare[..n],
-        &mut t[..COLUMNS * n],
-        output,
-    );
 }

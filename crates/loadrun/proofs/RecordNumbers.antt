@@ -8,41 +8,35 @@ use Rattle.base.specs.Fill.{Fills}
 use Rattle.base.proofs.Fill.{fills_as}
 use Rattle.model.specs.declared.record.Record.{Record}
 use Rattle.model.specs.File.{num, record_at, record_size}
-use Rattle.model.specs.Model.{Run, WithinLimits, rec}
+use Rattle.model.specs.Model.{Run, rec}
 use Rattle.openfile.specs.declared.head.Head.{Head}
 use Rattle.openfile.specs.Head.{Tells}
 use Rattle.openfile.proofs.WholeOrRefused.{tells_limits, tells_count, tells_record}
 use Rattle.table.specs.Table.{Loads, columns, recorded, number_at}
 use Rattle.table.proofs.LentLaws.{lent_none, loads_none, loads_on}
 
--- a run whose n records stand in a file from a place on
-pub record StandAt (b : List ℕ) (at n : ℕ) (ρ : Run) : Type 0 where
-  pub limits : WithinLimits ρ
-  pub count : n ≡ length ρ.records
-  pub record_at_lem : (k : ℕ) → k < n → rec ρ k ≡ record_at b (at + record_size * k)
+module _ {b : List ℕ} {h : Head} {ρ : Run} (T : Tells b h ρ) where
+  abbrev at : ℕ
+  at = h.records_at
 
-pub told_stand : {b : List ℕ} {h : Head} {ρ : Run} → Tells b h ρ → StandAt b h.records_at h.records ρ
-told_stand T = record { limits = tells_limits T; count = tells_count T; record_at_lem = tells_record T }
-
-module _ {b : List ℕ} {at n : ℕ} {ρ : Run} (S : StandAt b at n ρ) where
-  stands : (f : Record → ℕ) (j k : ℕ) → k < n → f (record_at b (at + record_size * k)) ≡ num b (at + record_size * k + 4 * j)
+  stands : (f : Record → ℕ) (j k : ℕ) → k < h.records → f (record_at b (at + record_size * k)) ≡ num b (at + record_size * k + 4 * j)
       → num b (at + 4 * j + record_size * k) ≡ f (rec ρ k)
   stands f j k l e =
       let z : at + 4 * j + record_size * k ≡ at + record_size * k + 4 * j = omega arith in
-      ap (num b) z ∙ sym e ∙ ap f (sym (S.record_at_lem k l))
+      ap (num b) z ∙ sym e ∙ ap f (sym (tells_record T k l))
 
-  number_read : (j k : ℕ) → j < recorded → k < n → num b (at + 4 * j + record_size * k) ≡ number_at ρ j k
-  number_read zero k h l = stands (λ x. x.task) 0 k l (ap (num b) (omega arith))
-  number_read (suc zero) k h l = stands (λ x. x.job) 1 k l (ap (num b) (omega arith))
-  number_read (suc (suc zero)) k h l = stands (λ x. x.release) 2 k l (ap (num b) (omega arith))
-  number_read (suc (suc (suc zero))) k h l = stands (λ x. x.start) 3 k l (ap (num b) (omega arith))
-  number_read (suc (suc (suc (suc zero)))) k h l = stands (λ x. x.end) 4 k l (ap (num b) (omega arith))
-  number_read (suc (suc (suc (suc (suc zero))))) k h l = stands (λ x. x.core) 5 k l (ap (num b) (omega arith))
-  number_read (suc (suc (suc (suc (suc (suc j)))))) k h l = absurd (omega arith)
+  number_read : (j k : ℕ) → j < recorded → k < h.records → num b (at + 4 * j + record_size * k) ≡ number_at ρ j k
+  number_read zero k w l = stands (λ x. x.task) 0 k l (ap (num b) (omega arith))
+  number_read (suc zero) k w l = stands (λ x. x.job) 1 k l (ap (num b) (omega arith))
+  number_read (suc (suc zero)) k w l = stands (λ x. x.release) 2 k l (ap (num b) (omega arith))
+  number_read (suc (suc (suc zero))) k w l = stands (λ x. x.start) 3 k l (ap (num b) (omega arith))
+  number_read (suc (suc (suc (suc zero)))) k w l = stands (λ x. x.end) 4 k l (ap (num b) (omega arith))
+  number_read (suc (suc (suc (suc (suc zero))))) k w l = stands (λ x. x.core) 5 k l (ap (num b) (omega arith))
+  number_read (suc (suc (suc (suc (suc (suc j)))))) k w l = absurd (omega arith)
 
-  pub read_none : (t : List ℕ) → length t ≡ columns * n → Loads 0 ρ n t t
-  read_none t e = loads_none (lent_none S.limits S.count e)
+  pub read_none : (t : List ℕ) → length t ≡ columns * h.records → Loads 0 ρ h.records t t
+  read_none t e = loads_none (lent_none (tells_limits T) (tells_count T) e)
 
-  pub read_on : {t t' t'' : List ℕ} (j : ℕ) → j < recorded → Loads j ρ n t t'
-      → Fills t' (j * n) n (λ k. num b (at + 4 * j + record_size * k)) t'' → Loads (j + 1) ρ n t t''
-  read_on j h F G = loads_on F (fills_as (number_at ρ j) (λ k l. number_read j k h l) G)
+  pub read_on : {t t' t'' : List ℕ} (j : ℕ) → j < recorded → Loads j ρ h.records t t'
+      → Fills t' (j * h.records) h.records (λ k. num b (at + 4 * j + record_size * k)) t'' → Loads (j + 1) ρ h.records t t''
+  read_on j w F G = loads_on F (fills_as (number_at ρ j) (λ k l. number_read j k w l) G)

@@ -1,1 +1,2 @@
 pub mod OtherJob
+pub mod Loading

@@ -1,9 +1,9 @@
 -- Document 01, "Carrying a run to H'": what a carry says and writes where its rules leave no choice. Two tables, each under a single
 -- statement. Assumes nothing.
+use Rattle.std.specs.Prelude.{Option, Some}
 use Prim.Native.Nat.{ℕ}
 use mathlib.Core.Path.{◌≡◌, refl}
 use mathlib.Core.List.{List, [], ◌∷◌, map}
-use mathlib.Core.Option.{Option, some}
 use Rattle.model.specs.Model.{Run, Job}
 use Rattle.model.specs.Answers.{five, Outcome}
 use Rattle.model.specs.Carry.{unbegun, next}
@@ -65,9 +65,9 @@ unbegun_all qs = record { setting = record { cores = 1; horizon = 1 }; tasks = [
 abbrev pub tied : List (List Job × Option ℕ)
 tied =
     -- the lower task, though its job is higher
-    ((7, 0) ∷ (5, 1) ∷ (6, 0) ∷ [], some 1)
+    ((7, 0) ∷ (5, 1) ∷ (6, 0) ∷ [], Some 1)
     -- of one task the lower job, where none of them precedes another
-    ∷ ((5, 5) ∷ (5, 1) ∷ (5, 3) ∷ [], some 1)
+    ∷ ((5, 5) ∷ (5, 1) ∷ (5, 3) ∷ [], Some 1)
     ∷ []
 
 pub ties_decided : map (λ row. next (unbegun_all row.0) 0) tied ≡ map (λ row. row.1) tied

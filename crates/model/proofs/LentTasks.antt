@@ -1,9 +1,9 @@
 -- Document 01: "Decoded tasks stand in a list the caller lends, one entry a task." Lists too short, exact and longer, and files that are
 -- refused; one table under a single statement. Assumes nothing.
+use Rattle.std.specs.Prelude.{None, Some}
 use Prim.Native.Nat.{ℕ}
 use mathlib.Core.Path.{◌≡◌, refl}
 use mathlib.Core.List.{List, [], ◌∷◌, map}
-use mathlib.Core.Option.{none, some}
 use Rattle.model.specs.declared.task.Task.{Task}
 use Rattle.model.specs.File.{Decoded, decoded}
 use Rattle.model.proofs.Worked.{file, computed}
@@ -28,13 +28,13 @@ old k = entry k k k k k
 -- the file and the lent list
 abbrev pub table : List ((List ℕ × List Task) × Decoded)
 table =
-    ((two 8, []), record { refusal = some (11, 0); list = [] })
-    ∷ ((two 8, old 1 ∷ []), record { refusal = some (11, 0); list = old 1 ∷ [] })
-    ∷ ((two 8, old 1 ∷ old 2 ∷ []), record { refusal = none; list = first_task ∷ second_task ∷ [] })
-    ∷ ((two 8, old 1 ∷ old 2 ∷ old 3 ∷ old 4 ∷ []), record { refusal = none; list = first_task ∷ second_task ∷ old 3 ∷ old 4 ∷ [] })
+    ((two 8, []), record { refusal = Some (11, 0); list = [] })
+    ∷ ((two 8, old 1 ∷ []), record { refusal = Some (11, 0); list = old 1 ∷ [] })
+    ∷ ((two 8, old 1 ∷ old 2 ∷ []), record { refusal = None; list = first_task ∷ second_task ∷ [] })
+    ∷ ((two 8, old 1 ∷ old 2 ∷ old 3 ∷ old 4 ∷ []), record { refusal = None; list = first_task ∷ second_task ∷ old 3 ∷ old 4 ∷ [] })
     -- the file's own refusals come first, and change no entry
-    ∷ ((two 20, old 1 ∷ []), record { refusal = some (5, 1); list = old 1 ∷ [] })
-    ∷ ((two 20, old 1 ∷ old 2 ∷ old 3 ∷ []), record { refusal = some (5, 1); list = old 1 ∷ old 2 ∷ old 3 ∷ [] })
+    ∷ ((two 20, old 1 ∷ []), record { refusal = Some (5, 1); list = old 1 ∷ [] })
+    ∷ ((two 20, old 1 ∷ old 2 ∷ old 3 ∷ []), record { refusal = Some (5, 1); list = old 1 ∷ old 2 ∷ old 3 ∷ [] })
     ∷ []
 
 pub tasks_lent : map (λ row. decoded row.0.0 row.0.1) table ≡ map (λ row. row.1) table

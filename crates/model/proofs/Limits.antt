@@ -1,9 +1,9 @@
 -- The tests of the ranges say what the ranges are. Assumes nothing.
+use Rattle.std.specs.Prelude.{None}
 use Prim.Native.Nat.{ℕ, ◌≤◌, ◌<◌}
 use mathlib.Core.Path.{◌≡◌}
 use mathlib.Core.Logic.{◌↔◌}
 use mathlib.Core.List.{List}
-use mathlib.Core.Option.{none}
 use native.Mathlib.Omega.{arith}
 use lib.ListN.{length}
 use Rattle.base.proofs.Test.{Says, says_leb, says_ltb, says_and, says_not, says_map, stable}
@@ -45,7 +45,7 @@ module _ (τs : List Task) where
       (λ i h. (omega arith, omega arith, h.1))
       (first_finds _ _ (λ i. says_not (says_task (task τs i))) 0 (length τs))
 
-  pub tasks_fine : (bad_task τs ≡ none) ↔ ((i : ℕ) → i < length τs → TaskInRange (task τs i))
+  pub tasks_fine : (bad_task τs ≡ None) ↔ ((i : ℕ) → i < length τs → TaskInRange (task τs i))
   tasks_fine =
       let (to, back) = finds_none _ _ bad_task_finds in
       (λ e i h. stable (says_task (task τs i)) (λ w. to e i (h, w)), λ g. back (λ i h. h.1 (g i h.0)))

@@ -1,9 +1,9 @@
 -- The lowest broken rule and its first place. Assumes nothing.
+use Rattle.std.specs.Prelude.{None, Some}
 use Prim.Native.Nat.{ℕ, zero, suc, ◌+◌, ◌-◌, ◌≤◌, ◌<◌}
 use mathlib.Core.Path.{◌≡◌, refl, sym, ◌∙◌, ap}
 use mathlib.Core.Logic.{inl, inr, ◌↔◌}
 use mathlib.Core.List.{List, [], ◌∷◌, map}
-use mathlib.Core.Option.{none, some}
 use native.Mathlib.Omega.{arith}
 use lib.ListN.{length, get_or, get_or-map}
 use Rattle.base.specs.First.{First, Lex}
@@ -73,7 +73,7 @@ module _ (ρ : Run) where
   broken ν p h = ((number_range ν).0, (number_range ν).1, rw (rule_number ν) h)
 
   -- none is broken exactly if all hold
-  pub lowest_none : (lowest ρ ≡ none) ↔ Obeys ρ
+  pub lowest_none : (lowest ρ ≡ None) ↔ Obeys ρ
   lowest_none = (
     λ e ν. (holds_nowhere ν ρ).1 (λ p h. (finds_none Broken (lowest ρ) lowest_finds).0 e (number ν, p) (broken ν p h)),
     λ O. (finds_none Broken (lowest ρ) lowest_finds).1 (λ q h. (holds_nowhere (rule q.0) ρ).0 (O (rule q.0)) q.1 h.2),
@@ -103,8 +103,8 @@ module _ (ρ : Run) where
         },
       )
 
-  pub lowest_some : (ν : Rule) (p : Place) → Lowest ν p → lowest ρ ≡ some (number ν, p)
+  pub lowest_some : (ν : Rule) (p : Place) → Lowest ν p → lowest ρ ≡ Some (number ν, p)
   lowest_some ν p L = (finds_some Broken (lowest ρ) lowest_finds (total_lex total_place) (number ν, p)).1 (lowest_first ν p L)
 
-  pub some_lowest : (i : ℕ) (p : Place) → lowest ρ ≡ some (i, p) → (ν : Rule) × (number ν ≡ i) × Lowest ν p
+  pub some_lowest : (i : ℕ) (p : Place) → lowest ρ ≡ Some (i, p) → (ν : Rule) × (number ν ≡ i) × Lowest ν p
   some_lowest i p e = first_lowest i p ((finds_some Broken (lowest ρ) lowest_finds (total_lex total_place) (i, p)).0 e)

@@ -1,13 +1,13 @@
 -- The finder of each rule finds nothing exactly if the rule holds, and else its first place: sound, complete, least. Assumes nothing.
+use Rattle.std.specs.Prelude.{None, Option, Some, option_map, slice_get}
 use Prim.Native.Nat.{ℕ, suc, ◌-◌, ◌<◌, max}
 use mathlib.Core.Path.{◌≡◌, refl, sym, ◌∙◌, ap}
 use mathlib.Core.Logic.{◌⊎◌, inl, inr, ◌↔◌}
 use mathlib.Core.Bool.{Bool, not}
 use mathlib.Core.List.{List, [], ◌∷◌}
-use mathlib.Core.Option.{Option, none, some, map}
 use native.Mathlib.Omega.{arith}
 use native.Mathlib.Decide.{dec_lt}
-use lib.ListN.{length, get_elem?}
+use lib.ListN.{length}
 use Rattle.base.proofs.Arrays.{entry_past}
 use Rattle.base.specs.First.{Lex}
 use Rattle.base.proofs.Test.{Says, says_not, stable}
@@ -19,7 +19,7 @@ use Rattle.model.proofs.RuleTests.{says_same_entry, says_released, says_started,
 
 -- What is found, as a place.
 -- --------------------------
-finds_one : (P : ℕ → Type 0) (o : Option ℕ) → Finds ◌<◌ P o → Finds Before (OfOne P) (map one o)
+finds_one : (P : ℕ → Type 0) (o : Option ℕ) → Finds ◌<◌ P o → Finds Before (OfOne P) (option_map one o)
 finds_one P = finds_along P (OfOne P) one (λ p. p.x) (λ k h. (h, refl, refl)) (λ p h. h.0) order
   where
     order : (k : ℕ) (p : Place) → Before p (one k) → OfOne P p → p.x < k
@@ -27,7 +27,7 @@ finds_one P = finds_along P (OfOne P) one (λ p. p.x) (λ k h. (h, refl, refl)) 
     order k p (inr (e, inl h)) w = absurd (omega arith)
     order k p (inr (e, inr h)) w = absurd (omega arith)
 
-finds_two : (P : ℕ → ℕ → Type 0) (o : Option (ℕ × ℕ)) → Finds (Lex ◌<◌) (λ q. P q.0 q.1) o → Finds Before (OfTwo P) (map two o)
+finds_two : (P : ℕ → ℕ → Type 0) (o : Option (ℕ × ℕ)) → Finds (Lex ◌<◌) (λ q. P q.0 q.1) o → Finds Before (OfTwo P) (option_map two o)
 finds_two P = finds_along (λ q. P q.0 q.1) (OfTwo P) two (λ p. (p.x, p.y)) (λ q h. (h, refl)) (λ p h. h.0) order
   where
     order : (q : ℕ × ℕ) (p : Place) → Before p (two q) → OfTwo P p → Lex ◌<◌ (p.x, p.y) q
@@ -36,7 +36,7 @@ finds_two P = finds_along (λ q. P q.0 q.1) (OfTwo P) two (λ p. (p.x, p.y)) (λ
     order q p (inr (e, inr h)) w = absurd (omega arith)
 
 finds_three : (P : ℕ → ℕ → ℕ → Type 0) (o : Option (ℕ × (ℕ × ℕ))) → Finds (Lex (Lex ◌<◌)) (λ q. P q.0 q.1.0 q.1.1) o
-    → Finds Before (OfThree P) (map three o)
+    → Finds Before (OfThree P) (option_map three o)
 finds_three P = finds_along (λ q. P q.0 q.1.0 q.1.1) (OfThree P) three (λ p. (p.x, (p.y, p.z))) (λ q h. h) (λ p h. h) (λ q p h w. h)
 
 -- A place among the records, of one number and of two.
@@ -119,7 +119,7 @@ Nowhere P = (p : Place) → ¬ P p
 each : (ρ : Run) (Good : ℕ → Type 0) → ((k : ℕ) → ¬ ¬ Good k → Good k) → ((k : ℕ) → IsRecord ρ k → Good k) ↔ Nowhere (OfOne (Fails ρ Good))
 each ρ Good S = (λ f p h. h.0.1 (f p.x h.0.0), λ f k h. S k (λ w. f (one k) ((h, w), refl, refl)))
 
-same_lists : (l m : List Job) → ((k : ℕ) → get_elem? l k ≡ get_elem? m k) → l ≡ m
+same_lists : (l m : List Job) → ((k : ℕ) → slice_get l k ≡ slice_get m k) → l ≡ m
 same_lists [] [] f = refl
 same_lists [] (y ∷ m) f = let e = f 0 in cc
 same_lists (x ∷ l) [] f = let e = f 0 in cc
@@ -131,7 +131,7 @@ same_lists (x ∷ l) (y ∷ m) f =
 
 jobs_nowhere : (ρ : Run) → Holds rule1 ρ ↔ Nowhere (OfOne (Differ ρ))
 jobs_nowhere ρ = (
-  λ e p h. h.0 (ap (λ l. get_elem? l p.x) e),
+  λ e p h. h.0 (ap (λ l. slice_get l p.x) e),
   λ f. same_lists _ _ (λ k. stable (says_same_entry _ _) (λ w. f (one k) (w, refl, refl))),
 )
 
@@ -166,9 +166,9 @@ total_place p q = go (total_lex (total_lex total_number) (p.x, (p.y, p.z)) (q.x,
     go (inr (inr h)) = inr (inr h)
 
 -- nothing is found exactly if the rule holds
-pub found_nothing : (ν : Rule) (ρ : Run) → (find ν ρ ≡ none) ↔ Holds ν ρ
+pub found_nothing : (ν : Rule) (ρ : Run) → (find ν ρ ≡ None) ↔ Holds ν ρ
 found_nothing ν ρ = (λ e. (holds_nowhere ν ρ).1 ((finds_none _ _ (finds ν ρ)).0 e), λ h. (finds_none _ _ (finds ν ρ)).1 ((holds_nowhere ν ρ).0 h))
 
 -- a place is found exactly if it is the first
-pub found_first : (ν : Rule) (ρ : Run) (p : Place) → (find ν ρ ≡ some p) ↔ FirstPlace ν ρ p
+pub found_first : (ν : Rule) (ρ : Run) (p : Place) → (find ν ρ ≡ Some p) ↔ FirstPlace ν ρ p
 found_first ν ρ p = finds_some _ _ (finds ν ρ) total_place p

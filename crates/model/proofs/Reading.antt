@@ -1,10 +1,10 @@
 -- What a file that is not refused tells. Assumes nothing.
+use Rattle.std.specs.Prelude.{None, Option, Some}
 use Prim.Native.Nat.{ℕ, zero, suc, ◌+◌, ◌*◌, ◌≤◌, ◌<◌}
 use mathlib.Core.Path.{◌≡◌, refl, sym, subst, ◌∙◌, ap}
 use mathlib.Core.Logic.{◌↔◌}
 use mathlib.Core.Bool.{Bool, true, false, true≢false, false≢true}
 use mathlib.Core.List.{List, [], ◌∷◌, ◌++◌, map}
-use mathlib.Core.Option.{Option, none, some}
 use native.Mathlib.Numerals.{add-one}
 use native.Mathlib.Omega.{arith}
 use lib.ListN.{length, get_or}
@@ -25,10 +25,10 @@ unfolding gate
 gate_whole ν true r ρ = (λ e. (refl, e), λ h. h.1)
 gate_whole ν false r ρ = (λ e. absurd (whole≢refused e), λ h. absurd (false≢true h.0))
 
-pub gate_task_whole : (o : Option ℕ) (r : Read) (ρ : Run) → (gate_task o r ≡ whole ρ) ↔ ((o ≡ none) × (r ≡ whole ρ))
+pub gate_task_whole : (o : Option ℕ) (r : Read) (ρ : Run) → (gate_task o r ≡ whole ρ) ↔ ((o ≡ None) × (r ≡ whole ρ))
 unfolding gate_task
-gate_task_whole none r ρ = (λ e. (refl, e), λ h. h.1)
-gate_task_whole (some i) r ρ = (λ e. absurd (whole≢refused e), λ h. let z : true ≡ false = cc h.0 in absurd (true≢false z))
+gate_task_whole None r ρ = (λ e. (refl, e), λ h. h.1)
+gate_task_whole (Some i) r ρ = (λ e. absurd (whole≢refused e), λ h. let z : true ≡ false = cc h.0 in absurd (true≢false z))
 
 module _ {A : Type 0} (entry : ℕ → A) (size : ℕ) where
   pub length-entries : (i n : ℕ) → length (entries entry size i n) ≡ n
@@ -86,7 +86,7 @@ module _ (b : List ℕ) where
         ((says_leb (num b i) most_records).sound t₂, omega arith, cc)
 
     tasks_tell : (σ : Setting) → read_tasks b σ ≡ whole ρ
-        → (1 ≤ n) × (n ≤ most_tasks) × (bad_task τs ≡ none) × (total_jobs τs σ.horizon ≤ most_jobs) × (read_records b σ τs (records_place n) ≡ whole ρ)
+        → (1 ≤ n) × (n ≤ most_tasks) × (bad_task τs ≡ None) × (total_jobs τs σ.horizon ≤ most_jobs) × (read_records b σ τs (records_place n) ≡ whole ρ)
     unfolding read_tasks
     tasks_tell σ e =
         let (t₁, e₁) = (gate_whole _ _ _ ρ).0 e in

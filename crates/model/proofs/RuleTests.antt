@@ -1,8 +1,8 @@
 -- The tests of the rules say what the rules say of one record, of two, and of a core at an instant. Assumes nothing.
+use Rattle.std.specs.Prelude.{None, Option, Some}
 use Prim.Native.Nat.{ℕ, ◌≤◌, ◌<◌}
 use mathlib.Core.Path.{◌≡◌, refl, sym, ap}
 use mathlib.Core.Bool.{true≢false, false≢true}
-use mathlib.Core.Option.{Option, none, some}
 use native.Mathlib.Omega.{arith}
 use lib.Dec.{leb, ltb}
 use mathlib.Core.Bool.{◌||◌}
@@ -18,10 +18,10 @@ says_same_job p q =
     says_map (λ w κ. (w.0 κ, w.1 κ)) (λ e. (ap (λ x. x.0) e, ap (λ x. x.1) e)) (says_and (says_eqb p.0 q.0) (says_eqb p.1 q.1))
 
 pub says_same_entry : (o p : Option Job) → Says (same_entry o p) (o ≡ p)
-says_same_entry none none = record { sound = λ e. refl; refutes = λ e h. true≢false e }
-says_same_entry none (some q) = record { sound = λ e. absurd (false≢true e); refutes = λ e h. some≢none (sym h) }
-says_same_entry (some p) none = record { sound = λ e. absurd (false≢true e); refutes = λ e h. some≢none h }
-says_same_entry (some p) (some q) = says_map (ap some) (λ e. cc) (says_same_job p q)
+says_same_entry None None = record { sound = λ e. refl; refutes = λ e h. true≢false e }
+says_same_entry None (Some q) = record { sound = λ e. absurd (false≢true e); refutes = λ e h. some≢none (sym h) }
+says_same_entry (Some p) None = record { sound = λ e. absurd (false≢true e); refutes = λ e h. some≢none h }
+says_same_entry (Some p) (Some q) = says_map (ap Some) (λ e. cc) (says_same_job p q)
 
 module _ (ρ : Run) where
   pub says_released : (k : ℕ) → Says (released ρ k) (Released ρ k)

@@ -1,9 +1,9 @@
 -- The five numbers that are computed are those of the table, and no others. Assumes nothing.
+use Rattle.std.specs.Prelude.{None, Option, Some}
 use Prim.Native.Nat.{ℕ, ◌<◌}
 use mathlib.Core.Path.{◌≡◌, refl, ◌∙◌}
 use mathlib.Core.Logic.{◌↔◌}
 use mathlib.Core.List.{List}
-use mathlib.Core.Option.{Option, none, some}
 use native.Mathlib.Omega.{arith}
 use Rattle.base.specs.Find.{first}
 use Rattle.base.proofs.Test.{says_ltb, says_and}
@@ -55,17 +55,17 @@ module _ (ρ : Run) where
   timely_said O = go early any early_finds any_finds
     where
       go : (o p : Option ℕ) → Finds ◌<◌ EarlyLate o → Finds ◌<◌ LateRecord p → Verdict ρ (timely_of o p (late_count ρ))
-      go (some k) p E A = Verdict.late_before_H_row O late_counted ((finds_some EarlyLate (some k) E total_number k).0 refl)
-      go none (some k) E A =
-          Verdict.late_from_H_row O late_counted (λ j h l b. (finds_none EarlyLate none E).0 refl j (h, l, b))
-          ((finds_some LateRecord (some k) A total_number k).0 refl)
-      go none none E A = Verdict.in_time_row O (λ k h l. (finds_none LateRecord none A).0 refl k (h, l))
+      go (Some k) p E A = Verdict.late_before_H_row O late_counted ((finds_some EarlyLate (Some k) E total_number k).0 refl)
+      go None (Some k) E A =
+          Verdict.late_from_H_row O late_counted (λ j h l b. (finds_none EarlyLate None E).0 refl j (h, l, b))
+          ((finds_some LateRecord (Some k) A total_number k).0 refl)
+      go None None E A = Verdict.in_time_row O (λ k h l. (finds_none LateRecord None A).0 refl k (h, l))
 
   pub accepted : Obeys ρ → verdict ρ ≡ timely ρ
   unfolding verdict
   accepted O = rw ((lowest_none ρ).1 O)
 
-  none_early : ((k : ℕ) → ¬ EarlyLate k) → early ≡ none
+  none_early : ((k : ℕ) → ¬ EarlyLate k) → early ≡ None
   none_early = (finds_none EarlyLate early early_finds).1
 
   -- what is said is computed
@@ -85,8 +85,8 @@ module _ (ρ : Run) where
   computed_said_lem = go (lowest ρ) refl
     where
       go : (o : Option (ℕ × Place)) → lowest ρ ≡ o → Verdict ρ (verdict_of o ρ)
-      go none e = timely_said ((lowest_none ρ).0 e)
-      go (some (i, p)) e =
+      go None e = timely_said ((lowest_none ρ).0 e)
+      go (Some (i, p)) e =
           let (ν, n, L) = some_lowest ρ i p e in
           let v : Verdict ρ (rule_broken (number ν) p) = Verdict.rule_broken_row ν L.lower L.place in
           rw n at v

@@ -1,8 +1,12 @@
 -- Document 01, "What the checker says", and document 02, request 4: answer 6.
-use Rattle.std.specs.Prelude.{ℕ, ◌≤◌, ◌<◌, ◌≡◌, ◌⊎◌, Bool, true, false, List, [], length}
+use Rattle.std.specs.Prelude.{ℕ, ◌≤◌, ◌<◌, ◌≡◌, ◌⊎◌, Bool, true, false, List, [], ◌∷◌, length, Result, Ok, Err}
 use Rattle.base.specs.First.{First, Number}
 use Rattle.model.specs.declared.answer.Answer.{Answer}
 use Rattle.model.specs.declared.answer.Answer.TheVariants.{InTime, LateBeforeH, LateFromH, RuleBroken, Refused, Written, Chain}
+use Rattle.model.specs.declared.broken.Broken.{Broken}
+use Rattle.model.specs.declared.broken.Broken.TheVariants.{Jobs, Release, Start, Length, Core, Overlap, Order, Idling, Turn}
+use Rattle.model.specs.declared.refusal.Refusal.{Refusal}
+use Rattle.model.specs.declared.refusal.Refusal.TheVariants.{CutShort, SettingCount, SettingRange, TaskCount, TaskRange, TooManyJobs, RecordCount, Followed, Horizon, NotAccepted, NoRoom, BadLine, GivenAgain, NotRising, NoRecord}
 use Rattle.model.specs.Model.{Run, IsRecord, rec, due}
 use Rattle.model.specs.File.{refused, whole, read}
 use Rattle.model.specs.Rules.{Rule, rule1, rule2, rule3, rule4, rule5, rule6, rule7, rule8, rule9, Holds, Obeys, Place, FirstPlace}
@@ -40,15 +44,58 @@ bytes_written n = five 5 n 0 0 0
 abbrev pub chain_written : ℕ → Five
 chain_written n = five 6 n 0 0 0
 
+-- A refusal of the program is an enum: the paper's number for each of its cases, and the task or the line that it names, else 0.
+abbrev pub refusal_numbers : Refusal → ℕ × ℕ
+refusal_numbers CutShort = (1, 0)
+refusal_numbers SettingCount = (2, 0)
+refusal_numbers SettingRange = (3, 0)
+refusal_numbers TaskCount = (4, 0)
+refusal_numbers (TaskRange i) = (5, i)
+refusal_numbers TooManyJobs = (6, 0)
+refusal_numbers RecordCount = (7, 0)
+refusal_numbers Followed = (8, 0)
+refusal_numbers Horizon = (9, 0)
+refusal_numbers NotAccepted = (10, 0)
+refusal_numbers NoRoom = (11, 0)
+refusal_numbers (BadLine i) = (12, i)
+refusal_numbers (GivenAgain i) = (13, i)
+refusal_numbers NotRising = (14, 0)
+refusal_numbers NoRecord = (20, 0)
+
+-- A broken rule with its place too: the paper's number of the rule, and the place.
+abbrev pub broken_numbers : Broken → ℕ × Place
+broken_numbers (Jobs k) = (1, record { x = k; y = 0; z = 0 })
+broken_numbers (Release k) = (2, record { x = k; y = 0; z = 0 })
+broken_numbers (Start k) = (3, record { x = k; y = 0; z = 0 })
+broken_numbers (Length k) = (4, record { x = k; y = 0; z = 0 })
+broken_numbers (Core k) = (5, record { x = k; y = 0; z = 0 })
+broken_numbers (Overlap a b) = (6, record { x = a; y = b; z = 0 })
+broken_numbers (Order a b) = (7, record { x = a; y = b; z = 0 })
+broken_numbers (Idling a t c) = (8, record { x = a; y = t; z = c })
+broken_numbers (Turn k) = (9, record { x = k; y = 0; z = 0 })
+
+abbrev pub numbers_at : ℕ × Place → List ℕ
+numbers_at p = p.0 ∷ p.1.x ∷ p.1.y ∷ p.1.z ∷ []
+
 -- An answer of the program is an enum: the paper's five numbers for each of its cases.
 abbrev pub five_of : Answer → Five
 five_of InTime = in_time
 five_of (LateBeforeH n k) = late_before_H n k
 five_of (LateFromH n k) = late_from_H n k
-five_of (RuleBroken ν x y z) = rule_broken ν (record { x = x; y = y; z = z })
-five_of (Refused ν i) = refusal ν i
+five_of (RuleBroken b) = rule_broken (broken_numbers b).0 (broken_numbers b).1
+five_of (Refused r) = refusal (refusal_numbers r).0 (refusal_numbers r).1
 five_of (Written n) = bytes_written n
 five_of (Chain n) = chain_written n
+
+-- A result of the program that may be a refusal, with the paper's numbers for it.
+abbrev pub numbered : {A : Type 0} → Result A Refusal → Result A (ℕ × ℕ)
+numbered (Ok x) = Ok x
+numbered (Err r) = Err (refusal_numbers r)
+
+-- what is said where a tool writes: how many bytes, or why not
+abbrev pub five_written : Result ℕ Refusal → Five
+five_written (Ok n) = bytes_written n
+five_written (Err r) = five_of (Refused r)
 
 -- What a tool that writes says, and what it writes to the front of its output: a refusal writes nothing.
 -- ------------------------------------------------------------------------------------------------------

@@ -1,6 +1,5 @@
 -- Document 01, "Carrying a run to H'", and document 02, request 3: carrying starts ready jobs only.
-use Rattle.std.specs.Prelude.{ℕ, zero, suc, ◌+◌, ◌-◌, ◌^◌, ◌≤◌, ◌≡◌, Bool, true, false, not, ◌&&◌, ◌||◌, List, map, leb, ltb, eqb, length, set}
-use Rattle.std.proofs.Math.Option.{Option, none, some}
+use Rattle.std.specs.Prelude.{ℕ, zero, suc, ◌+◌, ◌-◌, ◌^◌, ◌≤◌, ◌≡◌, Bool, true, false, not, ◌&&◌, ◌||◌, List, map, leb, ltb, eqb, length, set, None, Option, Some}
 use Rattle.base.specs.Find.{first, found}
 use Rattle.model.specs.declared.record.Record.{Record}
 use Rattle.model.specs.Model.{Run, Job, most_horizon, most_jobs, total_jobs, arrival, existing, place_of, task, task_of, rec, rank, preceding, ready}
@@ -23,8 +22,8 @@ kept_if false q x = unbegun q x.release
 
 -- New jobs are released at jP + O.
 abbrev pub at_H_of : Run → Job → Option ℕ → Record
-at_H_of ρ q (some k) = kept_if (ltb (rec ρ k).start ρ.setting.horizon) q (rec ρ k)
-at_H_of ρ q none = unbegun q (arrival (task ρ.tasks q.0) q.1)
+at_H_of ρ q (Some k) = kept_if (ltb (rec ρ k).start ρ.setting.horizon) q (rec ρ k)
+at_H_of ρ q None = unbegun q (arrival (task ρ.tasks q.0) q.1)
 
 abbrev pub at_H : Run → Job → Record
 at_H ρ q = at_H_of ρ q (place_of ρ q)
@@ -46,7 +45,7 @@ module _ (σ : Run) where
 
   -- its task's preceding job, if there is one, has begun
   abbrev pub BegunBefore : ℕ → Type 0
-  BegunBefore k = (p : ℕ) → preceding σ k ≡ some p → Begun p
+  BegunBefore k = (p : ℕ) → preceding σ k ≡ Some p → Begun p
 
   -- by instant t job k is ready: whatever stands in the record of a preceding job that has not begun is no end
   pub record ReadyBy (k t : ℕ) : Type 0 where
@@ -61,8 +60,8 @@ module _ (σ : Run) where
   not_begun k = eqb (rec σ k).core 0
 
   abbrev pub begun_if : Option ℕ → Bool
-  begun_if none = true
-  begun_if (some p) = not (not_begun p)
+  begun_if None = true
+  begun_if (Some p) = not (not_begun p)
 
   abbrev pub ready_by : ℕ → ℕ → Bool
   ready_by k t = begun_if (preceding σ k) && leb (ready σ k) t
@@ -111,14 +110,14 @@ module _ (σ : Run) where
 
 -- a job and a core, if there are both
 abbrev pub both : Option ℕ → Option ℕ → Option (ℕ × ℕ)
-both none c = none
-both (some k) none = none
-both (some k) (some c) = some (k, c)
+both None c = None
+both (Some k) None = None
+both (Some k) (Some c) = Some (k, c)
 
 -- At instant t, while a core is free and a ready job has not begun: at most m jobs start.
 unfoldable pub at_instant : ℕ → ℕ → Run → Run
 at_instant zero t σ = σ
-at_instant (suc m) t σ = elim (both (next σ t) (idle_core σ t)) [ none ↦ σ | some p ↦ at_instant m t (starts σ t p.0 p.1) ]
+at_instant (suc m) t σ = elim (both (next σ t) (idle_core σ t)) [ None ↦ σ | Some p ↦ at_instant m t (starts σ t p.0 p.1) ]
 
 -- At each of the n instants from t on, until every job has begun.
 unfoldable pub at_each_instant : ℕ → ℕ → Run → Run
@@ -160,7 +159,7 @@ pub data Source : Type 0 where
 
 -- its least record in a file, if it has one: a refused file has none
 abbrev pub least_of : Read → Job → Option ℕ
-least_of (refused ν i) q = none
+least_of (refused ν i) q = None
 least_of (whole ρ) q = place_of ρ q
 
 -- it began before H
@@ -170,8 +169,8 @@ began_before (whole ρ) k = ltb (rec ρ k).start ρ.setting.horizon
 
 -- From the carried file: the record, or the empty front part.
 abbrev pub shown_carried : List ℕ → Option ℕ → Source
-shown_carried c none = in_carried empty_part
-shown_carried c (some k) = in_carried (record_part c k)
+shown_carried c None = in_carried empty_part
+shown_carried c (Some k) = in_carried (record_part c k)
 
 -- From the recorded file when it began before H.
 abbrev pub shown_if : Bool → List ℕ → ℕ → Source → Source
@@ -179,8 +178,8 @@ shown_if true b k otherwise = in_recorded (record_part b k)
 shown_if false b k otherwise = otherwise
 
 abbrev pub shown_of : List ℕ → Option ℕ → Source → Source
-shown_of b none otherwise = otherwise
-shown_of b (some k) otherwise = shown_if (began_before (read b) k) b k otherwise
+shown_of b None otherwise = otherwise
+shown_of b (Some k) otherwise = shown_if (began_before (read b) k) b k otherwise
 
 unfoldable pub shown : List ℕ → List ℕ → Job → Source
 shown b c q = shown_of b (least_of (read b) q) (shown_carried c (least_of (read c) q))

@@ -1,6 +1,5 @@
 -- Document 01, "The run file", and the refusals 1 to 8, judged from the front.
-use Rattle.std.specs.Prelude.{ℕ, zero, suc, ◌+◌, ◌*◌, ◌/◌, ◌%◌, ◌<◌, Bool, true, false, List, [], ◌∷◌, ◌++◌, leb, ltb, eqb, length, get_or, take, drop}
-use Rattle.std.proofs.Math.Option.{Option, none, some}
+use Rattle.std.specs.Prelude.{ℕ, zero, suc, ◌+◌, ◌*◌, ◌/◌, ◌%◌, ◌<◌, Bool, true, false, List, [], ◌∷◌, ◌++◌, leb, ltb, eqb, length, get_or, take, drop, None, Option, Some}
 use Rattle.model.specs.declared.setting.Setting.{Setting}
 use Rattle.model.specs.declared.task.Task.{Task}
 use Rattle.model.specs.declared.record.Record.{Record}
@@ -109,8 +108,8 @@ pub data Read : Type 0 where
 
 -- the refusal of a file, by its number and task, if it is refused
 abbrev pub refusal_of : Read → Option (ℕ × ℕ)
-refusal_of (refused ν i) = some (ν, i)
-refusal_of (whole ρ) = none
+refusal_of (refused ν i) = Some (ν, i)
+refusal_of (whole ρ) = None
 
 -- refused with a number, unless the test passes
 unfoldable pub gate : ℕ → Bool → Read → Read
@@ -119,8 +118,8 @@ gate ν false r = refused ν 0
 
 -- refused with 5 and the task, unless there is no such task
 unfoldable pub gate_task : Option ℕ → Read → Read
-gate_task none r = r
-gate_task (some i) r = refused 5 i
+gate_task None r = r
+gate_task (Some i) r = refused 5 i
 
 module _ (b : List ℕ) where
   -- the tasks of a file that says that it has n
@@ -207,12 +206,12 @@ pub record Decoded : Type 0 where
 
 -- A list with fewer entries than the file has tasks is refusal 11; entries past the last task keep their values.
 abbrev pub decoded_if : Bool → List Task → List Task → Decoded
-decoded_if true τs list = record { refusal = none; list = τs ++ drop (length τs) list }
-decoded_if false τs list = record { refusal = some (11, 0); list = list }
+decoded_if true τs list = record { refusal = None; list = τs ++ drop (length τs) list }
+decoded_if false τs list = record { refusal = Some (11, 0); list = list }
 
 -- The file's own refusals come first; a refusal changes no entry.
 abbrev pub decoded_of : Read → List Task → Decoded
-decoded_of (refused ν i) list = record { refusal = some (ν, i); list = list }
+decoded_of (refused ν i) list = record { refusal = Some (ν, i); list = list }
 decoded_of (whole ρ) list = decoded_if (leb (length ρ.tasks) (length list)) ρ.tasks list
 
 unfoldable pub decoded : List ℕ → List Task → Decoded

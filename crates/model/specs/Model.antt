@@ -1,6 +1,5 @@
 -- Document 01, "The model in numbers", and document 02, request 3: when a job is ready. Times are whole ticks.
-use Rattle.std.specs.Prelude.{ℕ, zero, suc, ◌+◌, ◌*◌, ◌-◌, ◌/◌, ◌≤◌, ◌<◌, max, Bool, ◌&&◌, List, [], ◌∷◌, ◌++◌, map, eqb, length, get_or}
-use Rattle.std.proofs.Math.Option.{Option, none, some}
+use Rattle.std.specs.Prelude.{ℕ, zero, suc, ◌+◌, ◌*◌, ◌-◌, ◌/◌, ◌≤◌, ◌<◌, max, Bool, ◌&&◌, List, [], ◌∷◌, ◌++◌, map, eqb, length, get_or, None, Option, Some}
 use Rattle.base.specs.Find.{first}
 use Rattle.model.specs.declared.setting.Setting.{Setting}
 use Rattle.model.specs.declared.task.Task.{Task}
@@ -142,7 +141,7 @@ module _ (ρ : Run) where
 
   -- the record of the job before job j of task i, if there is one: job 0 has none before it
   abbrev pub job_before : ℕ → ℕ → Option ℕ
-  job_before i zero = none
+  job_before i zero = None
   job_before i (suc j) = place_of (i, j)
 
   -- its task's preceding job: the least record of that task and the job before
@@ -151,8 +150,8 @@ module _ (ρ : Run) where
 
   -- the end of a record, if there is one; else 0, before which nothing starts
   abbrev pub end_if : Option ℕ → ℕ
-  end_if none = 0
-  end_if (some p) = (rec p).end
+  end_if None = 0
+  end_if (Some p) = (rec p).end
 
   -- the end of its task's preceding job, if there is one
   unfoldable pub end_before : ℕ → ℕ

@@ -1,7 +1,7 @@
 -- Document 01, "The eight rules", and document 02, request 3, rule 9 and "ready" for "released" in 7 and 8: what each says of a run, and
 -- at which places a run breaks it.
-use Rattle.std.specs.Prelude.{ℕ, ◌+◌, ◌-◌, ◌≤◌, ◌<◌, ◌≡◌, ◌⊎◌, List, [], ◌∷◌, map, get_or}
-use Rattle.std.proofs.Math.ListN.{get_elem?}
+use Rattle.std.specs.Prelude.{ℕ, ◌+◌, ◌-◌, ◌≤◌, ◌<◌, ◌≡◌, ◌⊎◌, List, [], ◌∷◌, map, get_or, slice_get}
+use Rattle.std.proofs.Math.ListN.{}
 use Rattle.base.specs.First.{First}
 use Rattle.model.specs.Model.{Run, Job, IsRecord, rec, task_of, job_of, arrival, existing, rank, end_before, ready}
 
@@ -134,7 +134,7 @@ Before p q = (p.x < q.x) ⊎ ((p.x ≡ q.x) × ((p.y < q.y) ⊎ ((p.y ≡ q.y) �
 module _ (ρ : Run) where
   -- 1. Place: a k at which the two lists differ, one of them ending included.
   abbrev pub Differ : ℕ → Type 0
-  Differ k = ¬ (get_elem? (jobs_recorded ρ) k ≡ get_elem? (existing ρ ρ.setting.horizon) k)
+  Differ k = ¬ (slice_get (jobs_recorded ρ) k ≡ slice_get (existing ρ ρ.setting.horizon) k)
 
   -- 2 to 5, and 9. Place: a record that does not do as the rule says.
   abbrev pub Fails : (ℕ → Type 0) → ℕ → Type 0

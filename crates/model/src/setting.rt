@@ -14,21 +14,11 @@ impl Setting {
     pub const MOST_HORIZON: u32 = 1_000_000;
 
     // Whether both numbers are within their ranges.
+    #[tactic(auto, unfolding(crate::specs::Compute::Limits::setting_in_range))]
     pub fn in_range(self) -> bool
         ensures { result ≡ setting_in_range self }
     {
-        if self.cores < 1 {
-            return false;
-        }
-        if Setting::MOST_CORES < self.cores {
-            return false;
-        }
-        if self.horizon < 1 {
-            return false;
-        }
-        if Setting::MOST_HORIZON < self.horizon {
-            return false;
-        }
-        true
+        (1..=Setting::MOST_CORES).contains(&self.cores)
+            && (1..=Setting::MOST_HORIZON).contains(&self.horizon)
     }
 }

@@ -25,31 +25,15 @@ impl Task {
     pub const MOST_JOBS: u32 = 512;
 
     // Whether each number is within its range.
+    #[tactic(auto, unfolding(crate::specs::Compute::Limits::task_in_range))]
     pub fn in_range(self) -> bool
         ensures { result ≡ task_in_range self }
     {
-        if self.period < 1 {
-            return false;
-        }
-        if Task::MOST_PERIOD < self.period {
-            return false;
-        }
-        if self.least < 1 {
-            return false;
-        }
-        if self.greatest < self.least {
-            return false;
-        }
-        if Task::MOST_TIME < self.greatest {
-            return false;
-        }
-        if Task::MOST_OFFSET < self.offset {
-            return false;
-        }
-        if self.period <= self.jitter {
-            return false;
-        }
-        true
+        (1..=Task::MOST_PERIOD).contains(&self.period)
+            && (1..=self.greatest).contains(&self.least)
+            && self.greatest <= Task::MOST_TIME
+            && self.offset <= Task::MOST_OFFSET
+            && self.jitter < self.period
     }
 
     // jP + O, which fits for any four-byte numbers.
@@ -70,10 +54,7 @@ impl Task {
     pub fn jobs(self, horizon: u32) -> u32
         ensures { result ≡ job_count self horizon }
     {
-        if self.period < 1 {
-            return 0;
-        }
-        if horizon <= self.offset {
+        if self.period == 0 || horizon <= self.offset {
             return 0;
         }
         (horizon - self.offset - 1) / self.period + 1

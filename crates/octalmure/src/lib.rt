@@ -1,4 +1,5 @@
 // What a C host calls. A byte slice passes as a pointer and then a length.
+// Kept: C calls each of the five by its own name, and gets the number 4. The test that they share stands before the call: a closure over the lent output would not say that nothing was written where the test fails.
 #![tactic(auto)]
 
 mod carry;

@@ -1,9 +1,9 @@
 -- The tasks of a file, gone through one after the other. Assumes nothing.
+use Rattle.std.specs.Prelude.{None, Some, Result, Ok, Err}
 use Prim.Native.Nat.{ℕ, ◌+◌, ◌*◌, ◌≤◌, ◌<◌}
 use mathlib.Core.Path.{◌≡◌, refl, sym, ◌∙◌, ap}
 use mathlib.Core.Bool.{Bool, true, false, not}
 use mathlib.Core.List.{List}
-use mathlib.Core.Option.{none, some}
 use lib.ListN.{length}
 use native.Mathlib.Omega.{arith}
 use Rattle.base.proofs.Loop.{NoneTo, none_yet, none_on, first_hit, first_miss}
@@ -13,35 +13,33 @@ use Rattle.model.specs.File.{task_at, tasks_in, tasks_place, task_size}
 use Rattle.model.specs.Compute.Limits.{task_in_range, bad_task}
 use Rattle.model.proofs.Jobs.{jobs_on}
 use Rattle.model.proofs.Reading.{length-entries, entries_at, entries_on}
-use Rattle.openfile.specs.declared.tally.Tally.{Tally}
-use Rattle.openfile.specs.declared.tally.Tally.TheVariants.{OutOfRange, Jobs}
+use Rattle.model.specs.declared.refusal.Refusal.{Refusal}
+use Rattle.model.specs.declared.refusal.Refusal.TheVariants.{TaskRange}
 use Rattle.openfile.specs.Head.{Tallies}
+use Rattle.openfile.proofs.WholeOrRefused.{ok≢err}
 
 -- What was found
 -- --------------
-OutOfRange≢Jobs : {i n : ℕ} → ¬ (OutOfRange i ≡ Jobs n)
-OutOfRange≢Jobs {i} {n} e = let z : ◌≡◌ {A = ℕ} 0 1 = cc in omega arith
-
-module _ {τs : List Task} {H : ℕ} {r : Tally} (T : Tallies τs H r) where
-  pub tallied_out : {i : ℕ} → r ≡ OutOfRange i → bad_task τs ≡ some i
-  tallied_out {i} = go r T
+module _ {τs : List Task} {H : ℕ} {r : Result ℕ Refusal} (T : Tallies τs H r) where
+  pub tallied_err : {e : Refusal} → r ≡ Err e → (i : ℕ) × (e ≡ TaskRange i) × (bad_task τs ≡ Some i)
+  tallied_err {e} = go r T
     where
-      go : (r : Tally) → Tallies τs H r → r ≡ OutOfRange i → bad_task τs ≡ some i
-      go r (Tallies.out_of_range e) q = cc
-      go r (Tallies.all_in_range e j) q = absurd (OutOfRange≢Jobs (sym q))
+      go : (r : Result ℕ Refusal) → Tallies τs H r → r ≡ Err e → (i : ℕ) × (e ≡ TaskRange i) × (bad_task τs ≡ Some i)
+      go r (Tallies.out_of_range {i = i} b) q = (i, cc, b)
+      go r (Tallies.all_in_range b j) q = absurd (ok≢err q)
 
-  pub tallied_jobs : {n : ℕ} → r ≡ Jobs n → (bad_task τs ≡ none) × (n ≡ total_jobs τs H)
+  pub tallied_jobs : {n : ℕ} → r ≡ Ok n → (bad_task τs ≡ None) × (n ≡ total_jobs τs H)
   tallied_jobs {n} = go r T
     where
-      go : (r : Tally) → Tallies τs H r → r ≡ Jobs n → (bad_task τs ≡ none) × (n ≡ total_jobs τs H)
-      go r (Tallies.out_of_range e) q = absurd (OutOfRange≢Jobs q)
+      go : (r : Result ℕ Refusal) → Tallies τs H r → r ≡ Ok n → (bad_task τs ≡ None) × (n ≡ total_jobs τs H)
+      go r (Tallies.out_of_range e) q = absurd (ok≢err (sym q))
       go r (Tallies.all_in_range e j) q = (e, (cc))
 
 -- two tallies of the same tasks are the same
-pub tallied_once : {τs : List Task} {H : ℕ} {r r' : Tally} → Tallies τs H r → Tallies τs H r' → r ≡ r'
+pub tallied_once : {τs : List Task} {H : ℕ} {r r' : Result ℕ Refusal} → Tallies τs H r → Tallies τs H r' → r ≡ r'
 tallied_once {τs} {H} {r} {r'} = go r r'
   where
-    go : (r r' : Tally) → Tallies τs H r → Tallies τs H r' → r ≡ r'
+    go : (r r' : Result ℕ Refusal) → Tallies τs H r → Tallies τs H r' → r ≡ r'
     go r r' (Tallies.out_of_range e) (Tallies.out_of_range q) = cc
     go r r' (Tallies.out_of_range e) (Tallies.all_in_range q k) = let z : ◌≡◌ {A = ℕ} 0 1 = cc in absurd (omega arith)
     go r r' (Tallies.all_in_range e j) (Tallies.out_of_range q) = let z : ◌≡◌ {A = ℕ} 0 1 = cc in absurd (omega arith)
@@ -78,13 +76,13 @@ module _ {b : List ℕ} {H n i sum : ℕ} (I : TalliedTo b H n i sum) where
       rw (entries_on (task_at b) task_size (tasks_place + 4) i) (jobs_on (tasks_in b i) (file_task b i) H) in
       record { none_out = none_on (out b n) I.none_out (out_is h ∙ e); counted = omega (arith, I.counted); fits = omega (arith, I.fits) }
 
-  pub tally_out : i < n → not (task_in_range (file_task b i)) ≡ true → Tallies (tasks_in b n) H (OutOfRange i)
+  pub tally_out : i < n → not (task_in_range (file_task b i)) ≡ true → Tallies (tasks_in b n) H (Err (TaskRange i))
   unfolding bad_task
   tally_out h e =
       let l = long in
       Tallies.out_of_range (sym (first_hit (out b n) 0 (length (tasks_in b n)) (omega arith) (omega arith) I.none_out (out_is h ∙ e)))
 
-  pub tally_all : i ≡ n → Tallies (tasks_in b n) H (Jobs sum)
+  pub tally_all : i ≡ n → Tallies (tasks_in b n) H (Ok sum)
   unfolding bad_task
   tally_all q =
       let l = long in

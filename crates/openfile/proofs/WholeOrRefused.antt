@@ -1,6 +1,7 @@
 -- A file is refused, or it tells a run: one law for each, and what is known of the head of a file that tells a run. Assumes nothing.
+use Rattle.std.specs.Prelude.{Result, Ok, Err}
 use Prim.Native.Nat.{ℕ, ◌+◌, ◌*◌, ◌≤◌, ◌<◌}
-use mathlib.Core.Path.{◌≡◌, refl, sym, ◌∙◌, ap}
+use mathlib.Core.Path.{◌≡◌, refl, sym, ◌∙◌, ap, subst}
 use mathlib.Core.Bool.{true, false, true≢false}
 use mathlib.Core.List.{List}
 use lib.ListN.{length, get_or}
@@ -9,28 +10,45 @@ use Rattle.model.specs.Model.{Run, WithinLimits, most_tasks, most_records, task,
 use Rattle.model.specs.File.{Read, refused, whole, read, num, setting_at, task_at, record_at, entries, tasks_in, run_at, tasks_place, records_place, record_place, task_size, record_size, size_of}
 use Rattle.model.proofs.Reading.{read_is, read_limits, read_length, length-entries, entries_at}
 use Rattle.runfile.specs.TasksThere.{TasksThere}
+use Rattle.model.specs.declared.refusal.Refusal.{Refusal}
+use Rattle.model.specs.Answers.{numbered, refusal_numbers}
 use Rattle.openfile.specs.declared.head.Head.{Head}
-use Rattle.openfile.specs.declared.head.Opened.TheVariants.{Refused, Whole}
-use Rattle.openfile.specs.Head.{head_of, opened_of, Tells}
+use Rattle.openfile.specs.Head.{head_of, opened_of, Tells, run_of, run_in}
 
-Whole≢Refused : {h : Head} {ν i : ℕ} → ¬ (Whole h ≡ Refused ν i)
-Whole≢Refused {h} {ν} {i} e = let z : true ≡ false = cc in true≢false z
+pub ok≢err : {A B : Type 0} {x : A} {y : B} → ¬ (◌≡◌ {A = Result A B} (Ok x) (Err y))
+ok≢err {A} {B} {x} {y} e = let z : true ≡ false = cc in true≢false z
 
-pub whole_tells : (b : List ℕ) (h : Head) → Whole h ≡ opened_of (read b) → (ρ : Run) × Tells b h ρ
+pub whole_tells : (b : List ℕ) (h : Head) → Ok h ≡ opened_of (read b) → (ρ : Run) × Tells b h ρ
 unfolding opened_of
 whole_tells b h = go (read b) refl
   where
-    go : (r : Read) → read b ≡ r → Whole h ≡ opened_of r → (ρ : Run) × Tells b h ρ
-    go (refused ν i) q e = absurd (Whole≢Refused e)
+    go : (r : Read) → read b ≡ r → Ok h ≡ opened_of r → (ρ : Run) × Tells b h ρ
+    go (refused ν i) q e = absurd (ok≢err e)
     go (whole ρ) q e = (ρ, record { reads = q; head = cc })
 
-pub refused_tells : (b : List ℕ) (ν i : ℕ) → Refused ν i ≡ opened_of (read b) → read b ≡ refused ν i
+pub refused_tells : (b : List ℕ) (ν i : ℕ) → Err (ν, i) ≡ opened_of (read b) → read b ≡ refused ν i
 unfolding opened_of
 refused_tells b ν i = go (read b) refl
   where
-    go : (r : Read) → read b ≡ r → Refused ν i ≡ opened_of r → read b ≡ refused ν i
-    go (refused μ k) q e = cc
-    go (whole ρ) q e = absurd (Whole≢Refused (sym e))
+    go : (r : Read) → read b ≡ r → Err (ν, i) ≡ opened_of r → read b ≡ refused ν i
+    go (refused μ k) q e = let p : ◌≡◌ {A = ℕ × ℕ} (ν, i) (μ, k) = cc in q ∙ (λ κ. refused (sym p κ).0 (sym p κ).1)
+    go (whole ρ) q e = absurd (ok≢err (sym e))
+
+-- the same of what the program says of a file
+module _ (b : List ℕ) {o : Result Head Refusal} (e : numbered o ≡ opened_of (read b)) where
+  pub ok_tells : {h : Head} → o ≡ Ok h → (ρ : Run) × Tells b h ρ
+  ok_tells {h} q = whole_tells b h (ap numbered (sym q) ∙ e)
+
+  pub err_tells : {r : Refusal} → o ≡ Err r → read b ≡ refused (refusal_numbers r).0 (refusal_numbers r).1
+  err_tells {r} q = refused_tells b _ _ (ap numbered (sym q) ∙ e)
+
+-- the run that a file tells is the one run of which that is so
+pub run_in_is : {b : List ℕ} {h : Head} {ρ : Run} → Tells b h ρ → run_in b ≡ ρ
+unfolding run_in
+run_in_is T = ap run_of T.reads
+
+pub tells_own : {b : List ℕ} {h : Head} → (ρ : Run) × Tells b h ρ → Tells b h (run_in b)
+tells_own {b} {h} (ρ, T) = subst (Tells b h) (sym (run_in_is T)) T
 
 -- What is known of a head
 -- -----------------------

@@ -11,10 +11,3 @@ pub struct Head {
     pub records: u32,
     pub records_at: u32,
 }
-
-// A file that is refused, by the refusal's number and the task that it names; or one that is whole.
-#[derive(Clone, Copy)]
-pub enum Opened {
-    Refused(u32, u32),
-    Whole(Head),
-}

@@ -3,8 +3,12 @@
 
 mod head;
 mod judge;
+mod opening;
 mod tally;
+mod told;
 
-pub use head::{Head, Opened};
+pub use head::Head;
 pub use judge::open_file;
-pub use tally::{Tally, tally_tasks};
+pub use opening::opened;
+pub use tally::tally_tasks;
+pub use told::OpenFile;

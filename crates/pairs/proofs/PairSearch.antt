@@ -1,55 +1,27 @@
--- A search in a search, by two loops that leave at the first pair: for each a below n the numbers from another on up to n. Assumes nothing.
-use Prim.Native.Nat.{ℕ, ◌+◌, ◌≤◌, ◌<◌}
-use mathlib.Core.Path.{◌≡◌, refl, sym, ◌∙◌, ap}
+-- What `find` finds along a range of numbers is the first of them that passes. Assumes nothing.
+use Rattle.std.specs.Prelude.{None, Option, Some}
+use Rattle.std.specs.Fn.{CalledAt}
+use Rattle.std.specs.Iterator.{FindsItem}
+use Rattle.std.specs.Option.{MatchOption}
+use Rattle.std.specs.declared.ops.Range.{Range}
+use Rattle.std.proofs.iter.Yields.{nat_range_steps}
+use Rattle.std.proofs.lemmas.Iterator.{first_from_Range}
+use denote.Param.Members.{Mut}
+use denote.Ref.{Bor}
+use Prim.Native.Nat.{ℕ, ◌+◌, ◌-◌, ◌≤◌, ◌<◌}
+use mathlib.Core.Path.{◌≡◌, sym}
 use mathlib.Core.Bool.{Bool, true, false}
-use mathlib.Core.Option.{Option, some}
 use native.Mathlib.Omega.{arith}
-use Rattle.base.specs.Find.{first, first_of, seen_two}
-use Rattle.base.specs.declared.FoundTwo.{FoundTwo}
-use Rattle.base.specs.declared.FoundTwo.TheVariants.{Nothing}
-use Rattle.base.proofs.Loop.{NoneTo, none_yet, none_on, first_hit, first_miss, NothingTo, nothing_yet, nothing_on, first_of_hit, first_of_miss}
+use Rattle.base.specs.Find.{first}
+use Rattle.base.proofs.Loop.{first_hit, first_miss}
 
--- the numbers of row a begin at `from a`, and there are `many a` of them
-module _ (p : ℕ → ℕ → Bool) (from many : ℕ → ℕ) (n : ℕ) where
-  abbrev row : ℕ → Option ℕ
-  row a = first (p a) (from a) (many a)
+module _ (p : ℕ → Bool) where
+  least : (i n : ℕ) (o : Option ℕ) → MatchOption o ((k : ℕ) → i ≤ k → k < n → p k ≡ false)
+      (λ j. (i ≤ j) × (j < n) × (p j ≡ true) × ((k : ℕ) → i ≤ k → k < j → p k ≡ false)) → o ≡ first p i (n - i)
+  least i n None f = first_miss p i (n - i) {k = i + (n - i)} (omega arith) (record { below = λ j u v. f j u (omega arith) })
+  least i n (Some j) (l, h, e, f) = first_hit p i (n - i) l (omega arith) (record { below = f }) e
 
-  -- in the rows before a nothing was found
-  pub record Rows (o : FoundTwo) (a : ℕ) : Type 0 where
-    pub unfound : o ≡ Nothing
-    pub up_to : (a : ℕ) → a < n → from a + many a ≡ n
-    pub within : a ≤ n
-    pub rows : NothingTo row 0 a
-
-  -- nor in row a before b
-  pub record Row (o : FoundTwo) (a b : ℕ) : Type 0 where
-    pub before : Rows o a
-    pub a_row : a < n
-    pub from_on : from a ≤ b
-    pub within : b ≤ n
-    pub row : NoneTo (p a) (from a) b
-
-  pub rows_yet : ((a : ℕ) → a < n → from a + many a ≡ n) → Rows Nothing 0
-  rows_yet e = record { unfound = refl; up_to = e; within = omega arith; rows = nothing_yet _ }
-
-  module _ {o : FoundTwo} {a : ℕ} where
-    pub row_yet : {b : ℕ} → Rows o a → a < n → b ≡ from a → Row o a b
-    row_yet R h e = let u = R.up_to a h in record { before = R; a_row = h; from_on = omega arith; within = omega arith; row = rw e (none_yet _) }
-
-    pub row_on : {b : ℕ} → Row o a b → b < n → p a b ≡ false → Row o a (b + 1)
-    row_on R l e =
-        record { before = R.before; a_row = R.a_row; from_on = omega arith; within = omega arith; row = none_on _ R.row e }
-
-    pub row_done : {b : ℕ} → Row o a b → n ≤ b → Rows o (a + 1)
-    row_done R l =
-        let e = R.before.up_to a R.a_row in
-        let rows = nothing_on _ R.before.rows (sym (first_miss (p a) (from a) (many a) (omega arith) R.row)) in
-        record { unfound = R.before.unfound; up_to = R.before.up_to; within = omega arith; rows = rows }
-
-    pub row_hit : {b : ℕ} → Row o a b → b < n → p a b ≡ true → some (a, b) ≡ first_of row 0 n
-    row_hit R l e =
-        let u = R.before.up_to a R.a_row in
-        first_of_hit _ _ _ (omega arith) (omega arith) R.before.rows (sym (first_hit _ _ _ R.from_on (omega arith) R.row e))
-
-    pub rows_done : Rows o a → n ≤ a → seen_two o ≡ first_of row 0 n
-    rows_done R l = ap seen_two R.unfound ∙ first_of_miss _ _ _ (omega arith) R.rows
+  pub first_found : {F : Type 0} {g : Mut F (Bor ℕ × Unit {0}) Bool} {i m : ℕ} (s u : Range ℕ) (f : F) (o : Option ℕ) → FindsItem nat_range_steps g s f o u
+      → ((x : ℕ) (b : Bool) (q : F) → CalledAt g f x b q → (q ≡ f) × (b ≡ p x)) → i ≡ s.start → m ≡ s.end - s.start → o ≡ first p i m
+  first_found s u f o ran h v w =
+      rw (v, w) (least s.start s.end o (first_from_Range s u f o (λ k. p k ≡ true) (λ k. p k ≡ false) ran (λ x q k. sym (h x true q k).1) (λ x q k. ((h x false q k).0, sym (h x false q k).1))))

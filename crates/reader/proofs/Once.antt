@@ -4,7 +4,7 @@ use Prim.Native.Nat.{ℕ}
 use mathlib.Core.Path.{◌≡◌, sym, ◌∙◌}
 use mathlib.Core.List.{List}
 use denote.Ref.{Bor}
-use Rattle.base.proofs.Once.{Once, ◌also◌, both, seen_once}
+use Rattle.base.proofs.Once.{Once, ◌also◌, both}
 use Rattle.model.specs.File.{Part}
 use Rattle.reader.specs.LentFile.{IsPart, Opens, Gives}
 use Rattle.reader.specs.declared.Reader.{Reader}
@@ -31,14 +31,13 @@ pub is_of_once : Once is_of.Pre is_of.Post (λ r exit. r)
 is_of_once κs args _ r r' exit exit' p q = p ∙ sym q
 
 pub least_record_once : Once least_record.Pre least_record.Post (λ r exit. r)
-least_record_once κs args _ r r' exit exit' = seen_once r r' _
+least_record_once κs args _ r r' exit exit' p q = p ∙ sym q
 
 -- Of `open` and `record`, whose contracts are the relations `Opens` and `Gives`: a reader holds a reference, and such a function has
 -- no module `Reads`.
 pub open_once : (file : Bor (List ℕ)) (r r' : Reader) → Opens file r → Opens file r' → r ≡ r'
 open_once file r r' p q =
-    let e = p.1 ∙ sym q.1 in
-    λ κ. record { file = (p.0 ∙ sym q.0) κ; tasks = (e κ).tasks; records = (e κ).records; count = (e κ).count }
+    λ κ. record { file = (p.0 ∙ sym q.0) κ; starts = (p.1 ∙ sym q.1) κ }
 
 pub record_once : (r : Reader) (k : ℕ) (s s' : Bor (List ℕ)) → Gives r k s → Gives r k s' → (s.ref_ptr also s.now) ≡ (s'.ref_ptr also s'.now)
 record_once r k s s' = part_once r.file s s' _

@@ -15,7 +15,8 @@ use Rattle.openfile.specs.declared.head.Head.{Head}
 use Rattle.openfile.specs.Head.{Tells}
 use Rattle.openfile.proofs.WholeOrRefused.{tells_task_count, tells_count, tells_place, tells_size}
 use Rattle.reader.specs.declared.Starts.{Starts}
-use Rattle.reader.specs.LentFile.{starts_of, part_in, IsPart}
+use Rattle.reader.specs.declared.Reader.{Reader}
+use Rattle.reader.specs.LentFile.{starts_of, part_in, IsPart, Opens, Gives}
 use Rattle.reader.proofs.SectionStarts.{Begins, begins}
 
 module _ (l at n k : ℕ) where
@@ -66,6 +67,11 @@ module _ (b : List ℕ) (k : ℕ) where
       go (Begins.whole_file {h} {ρ} T z) = rw (T.reads, z) (of_whole T (ltb k (length ρ.records)) refl)
 
 -- what is returned of a file is its record k
-pub is_record : (k : ℕ) {r file : Bor (List ℕ)} {s : Starts} → s ≡ starts_of (read file.now) → IsPart r file (part_in (length file.now) s.records s.count k)
+is_record : (k : ℕ) {r file : Bor (List ℕ)} {s : Starts} → s ≡ starts_of (read file.now) → IsPart r file (part_in (length file.now) s.records s.count k)
     → IsPart r file (record_part file.now k)
 is_record k {r} {file} {s} e = subst (IsPart r file) (part_is file.now k e)
+
+-- what a reader of a file gives is the file's record k
+pub gives_record : (k : ℕ) {file s : Bor (List ℕ)} {r : Reader} → Opens file r → Gives r k s → IsPart s file (record_part file.now k)
+gives_record k {file} {s} {r} (same, starts) g =
+    is_record k starts (subst (λ (x : Bor (List ℕ)). IsPart s x (part_in (length x.now) r.starts.records r.starts.count k)) same g)

@@ -27,8 +27,8 @@ pub record IsPart (r file : Bor (List ℕ)) (p : Part) : Type 0 where
 
 -- r is the reader of a file: it holds the file, where its sections begin and how many records there are
 abbrev pub Opens : Bor (List ℕ) → Reader → Type 0
-Opens file r = (r.file ≡ file) × (◌≡◌ {A = Starts} (record { tasks = r.tasks; records = r.records; count = r.count }) (starts_of (read file.now)))
+Opens file r = (r.file ≡ file) × (r.starts ≡ starts_of (read file.now))
 
 -- s is record k of a reader, or the empty front part
 abbrev pub Gives : Reader → ℕ → Bor (List ℕ) → Type 0
-Gives r k s = IsPart s r.file (part_in (length r.file.now) r.records r.count k)
+Gives r k s = IsPart s r.file (part_in (length r.file.now) r.starts.records r.starts.count k)

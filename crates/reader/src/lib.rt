@@ -7,7 +7,7 @@ ghost use Rattle.std.specs.Prelude.{◌≡◌, length};
 ghost use Rattle.model.specs.File.{read, record_part};
 ghost use Rattle.reader.specs.LentFile.{starts_of, part_in, IsPart, Opens, Gives};
 
-use openfile::{Opened, open_file};
+use openfile::open_file;
 use runfile::RECORD_SIZE;
 pub use search::{is_of, least_record};
 
@@ -19,19 +19,17 @@ pub struct Starts {
     pub count: u32,
 }
 
+// A lent file, and where its sections begin.
 #[derive(Clone, Copy)]
 pub struct Reader<'a> {
     pub file: &'a [u8],
-    pub tasks: u32,
-    pub records: u32,
-    pub count: u32,
+    pub starts: Starts,
 }
 
 pub fn starts_of(file: &[u8]) -> Starts
     ensures { result ≡ starts_of (read file.now) }
 {
-    let opened = open_file(file);
-    let Opened::Whole(head) = opened else {
+    let Ok(head) = open_file(file) else {
         return Starts {
             tasks: 0,
             records: 0,
@@ -49,27 +47,21 @@ pub fn starts_of(file: &[u8]) -> Starts
 pub fn part_in<'a>(file: &'a [u8], at: u32, n: u32, k: u32) -> &'a [u8]
     ensures { IsPart result file.entry (part_in (length file.now) at n k) }
 {
-    if n <= k {
-        return &file[..0];
-    }
     let from = at as usize + RECORD_SIZE * k as usize;
     let to = from + RECORD_SIZE;
-    if file.len() < to {
-        return &file[..0];
+    if k < n && to <= file.len() {
+        return &file[from..to];
     }
-    &file[from..to]
+    &file[..0]
 }
 
 // The reader of a file: the file is judged once.
 pub fn open<'a>(file: &'a [u8]) -> Reader<'a>
     ensures { Opens file.entry result }
 {
-    let s = starts_of(file);
     Reader {
         file,
-        tasks: s.tasks,
-        records: s.records,
-        count: s.count,
+        starts: starts_of(file),
     }
 }
 
@@ -77,7 +69,7 @@ pub fn open<'a>(file: &'a [u8]) -> Reader<'a>
 pub fn record<'a>(r: Reader<'a>, k: u32) -> &'a [u8]
     ensures { Gives r.entry k result }
 {
-    part_in(r.file, r.records, r.count, k)
+    part_in(r.file, r.starts.records, r.starts.count, k)
 }
 
 // The same with plain parameters: record k of a file as the 24 bytes of the file that it is, and the empty front part if k is not

@@ -4,4 +4,4 @@
 mod line;
 mod scan;
 
-pub use scan::{ROWS, Scanned, WIDTH, read_lines};
+pub use scan::read_lines;

@@ -1,38 +1,19 @@
 // A line of a table: six numbers, separated by commas, then a line feed.
 ghost use Rattle.readlines.specs.Scan.{SaysLine};
 
-use decimal::{Parsed, number_at};
+use decimal::number_at;
 use model::Record;
 
-#[derive(Clone, Copy)]
-pub(crate) enum Line {
-    // the record, and the place after the line feed
-    Good(Record, usize),
-    Bad,
-}
-
-// The line at a place.
-pub(crate) fn line_at(s: &[u8], at: usize) -> Line
+// The record of the line at a place, and the place after its line feed.
+pub(crate) fn line_at(s: &[u8], at: usize) -> Option<(Record, usize)>
     ensures { SaysLine s.now at result }
 {
-    let Parsed::Number(task, i) = number_at(s, at, b',') else {
-        return Line::Bad;
-    };
-    let Parsed::Number(job, j) = number_at(s, i, b',') else {
-        return Line::Bad;
-    };
-    let Parsed::Number(release, k) = number_at(s, j, b',') else {
-        return Line::Bad;
-    };
-    let Parsed::Number(start, l) = number_at(s, k, b',') else {
-        return Line::Bad;
-    };
-    let Parsed::Number(end, m) = number_at(s, l, b',') else {
-        return Line::Bad;
-    };
-    let Parsed::Number(core, next) = number_at(s, m, b'\n') else {
-        return Line::Bad;
-    };
+    let (task, i) = number_at(s, at, b',')?;
+    let (job, j) = number_at(s, i, b',')?;
+    let (release, k) = number_at(s, j, b',')?;
+    let (start, l) = number_at(s, k, b',')?;
+    let (end, m) = number_at(s, l, b',')?;
+    let (core, next) = number_at(s, m, b'\n')?;
     let x = Record {
         task,
         job,
@@ -41,5 +22,5 @@ pub(crate) fn line_at(s: &[u8], at: usize) -> Line
         end,
         core,
     };
-    Line::Good(x, next)
+    Some((x, next))
 }

@@ -1,15 +1,20 @@
--- What rules 2 to 5 ask of one record by its numbers and by what its task gives it.
+-- What rules 2 to 5 and 9 ask of one record, by the numbers that stand at its place of the columns.
 use Rattle.std.specs.Prelude.{ℕ, ◌-◌, Bool, ◌&&◌, List, leb, get_or}
-use Rattle.rules.specs.declared.Asks.{Asks}
-use Rattle.rules.specs.declared.Asks.TheVariants.{Released, Started, Lasted, OnCore}
 
--- Rule 2: earliest, release, latest. Rule 3: release, start. Rule 4: start, end, least and greatest time. Rule 5: core.
-unfoldable pub obeyed_by : Asks → ℕ → ℕ → ℕ → ℕ → Bool
-obeyed_by Released a r l x = leb a r && leb r l
-obeyed_by Started r s x y = leb r s
-obeyed_by Lasted s e b w = leb s e && (leb b (e - s) && leb (e - s) w)
-obeyed_by (OnCore N) c x y z = leb 1 c && leb c N
+-- rule 2: earliest, release, latest
+abbrev pub release_in : List ℕ → List ℕ → List ℕ → ℕ → Bool
+release_in bs rs ls k = leb (get_or bs k 0) (get_or rs k 0) && leb (get_or rs k 0) (get_or ls k 0)
 
--- the same of the numbers that stand at one place of four columns
-abbrev pub obeyed_in : Asks → List ℕ → List ℕ → List ℕ → List ℕ → ℕ → Bool
-obeyed_in asks ws xs ys zs k = obeyed_by asks (get_or ws k 0) (get_or xs k 0) (get_or ys k 0) (get_or zs k 0)
+-- rule 3: release, start; rule 9: ready, start
+abbrev pub start_in : List ℕ → List ℕ → ℕ → Bool
+start_in rs ss k = leb (get_or rs k 0) (get_or ss k 0)
+
+-- rule 4: start, end, least and greatest time
+abbrev pub length_in : List ℕ → List ℕ → List ℕ → List ℕ → ℕ → Bool
+length_in ss es bs ws k =
+    leb (get_or ss k 0) (get_or es k 0)
+    && (leb (get_or bs k 0) (get_or es k 0 - get_or ss k 0) && leb (get_or es k 0 - get_or ss k 0) (get_or ws k 0))
+
+-- rule 5: how many cores, core
+abbrev pub core_in : ℕ → List ℕ → ℕ → Bool
+core_in N cs k = leb 1 (get_or cs k 0) && leb (get_or cs k 0) N

@@ -1,72 +1,55 @@
 // Rules 2 to 5 and 9 over columns: the least record that does not do as a rule asks.
 #![tactic(auto)]
 
-ghost use Rattle.std.specs.Prelude.{◌≡◌, not, ◌&&◌, [], ◌∷◌, leb, length};
+ghost use Rattle.std.specs.Prelude.{◌≡◌, ℕ, Bool, not, [], ◌∷◌, ◌<◌, ◌≤◌, length};
+ghost use Rattle.std.specs.Iterator.{ActsAs};
 ghost use Rattle.base.specs.Columns.{Columns};
-ghost use Rattle.base.specs.Find.{seen, first};
-ghost use Rattle.rules.specs.Asked.{obeyed_by, obeyed_in};
+ghost use Rattle.base.specs.Find.{first};
+ghost use Rattle.rules.specs.Asked.{release_in, start_in, length_in, core_in};
 
-use base::Found;
-
-// What a rule asks of a record by four numbers; where it asks fewer, the others are not looked at.
-#[derive(Clone, Copy)]
-pub enum Asks {
-    // earliest, release, latest
-    Released,
-    // release, start; of rule 9 ready, start
-    Started,
-    // start, end, least and greatest time
-    Lasted,
-    // core, of so many
-    OnCore(u32),
+// The first of the places below n that passes a test.
+fn first_place<F: Fn(usize) -> bool>(n: usize, passes: F) -> Option<u32>
+    requires few { n ≤ 4294967295 }
+    requires callable { (k : ℕ) → k < n → F.pre passes k }
+    ensures { (p : ℕ → Bool) → ActsAs F.FnMut passes p → result ≡ first p 0 n }
+{
+    (0..n).position(passes).map(|k| k as u32)
 }
 
-// Rule 4 of one record.
-fn lasted(start: u32, end: u32, least: u32, greatest: u32) -> bool
-    ensures { result ≡ obeyed_by Asks.Lasted start end least greatest }
+// Rule 2. Release.
+pub fn release_place(earliest: &[u32], release: &[u32], latest: &[u32]) -> Option<u32>
+    requires { Columns 4294967295 earliest.now (release.now ∷ latest.now ∷ []) }
+    ensures { result ≡ first (λ k. not (release_in earliest.now release.now latest.now k)) 0 (length earliest.now) }
 {
-    if end < start {
-        return false;
-    }
-    if end - start < least {
-        return false;
-    }
-    end - start <= greatest
+    first_place(
+        earliest.len(),
+        |k| !(earliest[k]..=latest[k]).contains(&release[k]),
+    )
 }
 
-// Whether a number lies between two others.
-fn within(a: u32, x: u32, b: u32) -> bool
-    ensures { result ≡ (leb a x && leb x b) }
+// Rule 3. Start; of rule 9 with the instants at which the records are ready.
+pub fn start_place(release: &[u32], start: &[u32]) -> Option<u32>
+    requires { Columns 4294967295 release.now (start.now ∷ []) }
+    ensures { result ≡ first (λ k. not (start_in release.now start.now k)) 0 (length release.now) }
 {
-    if x < a {
-        return false;
-    }
-    x <= b
+    first_place(release.len(), |k| start[k] < release[k])
 }
 
-fn obeyed(asks: Asks, a: u32, b: u32, c: u32, d: u32) -> bool
-    ensures { result ≡ obeyed_by asks a b c d }
+// Rule 4. Length.
+pub fn length_place(start: &[u32], end: &[u32], least: &[u32], greatest: &[u32]) -> Option<u32>
+    requires { Columns 4294967295 start.now (end.now ∷ least.now ∷ greatest.now ∷ []) }
+    ensures { result ≡ first (λ k. not (length_in start.now end.now least.now greatest.now k)) 0 (length start.now) }
 {
-    match asks {
-        Asks::Released => within(a, b, c),
-        Asks::Started => a <= b,
-        Asks::Lasted => lasted(a, b, c, d),
-        Asks::OnCore(cores) => within(1, a, cores),
-    }
+    first_place(
+        start.len(),
+        |k| end[k] < start[k] || !(least[k]..=greatest[k]).contains(&(end[k] - start[k])),
+    )
 }
 
-// The least record that does not do as it is asked.
-pub fn record_place(asks: Asks, a: &[u32], b: &[u32], c: &[u32], d: &[u32]) -> Found
-    requires { Columns 4294967295 a.now (b.now ∷ c.now ∷ d.now ∷ []) }
-    ensures { seen result
-        ≡ first (λ k. not (obeyed_in asks a.now b.now c.now d.now k)) 0 (length a.now) }
+// Rule 5. Core.
+pub fn core_place(cores: u32, core: &[u32]) -> Option<u32>
+    requires { Columns 4294967295 core.now [] }
+    ensures { result ≡ first (λ k. not (core_in cores core.now k)) 0 (length core.now) }
 {
-    let mut k = 0;
-    while k < a.len() {
-        if !obeyed(asks, a[k], b[k], c[k], d[k]) {
-            return Found::At(k as u32);
-        }
-        k += 1;
-    }
-    Found::Nothing
+    first_place(core.len(), |k| !(1..=cores).contains(&core[k]))
 }

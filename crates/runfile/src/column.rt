@@ -12,9 +12,7 @@ pub fn read_column(file: &[u8], at: usize, n: usize, t: &mut [u32], from: usize)
     requires { HasColumn file.now at n t.old from }
     ensures { Fills t.old from n (λ k. num file.now (at + record_size * k)) t.new }
 {
-    let mut k = 0;
-    while k < n {
-        t[from + k] = word_at(file, at + RECORD_SIZE * k);
-        k += 1;
+    for (k, x) in t[from..from + n].iter_mut().enumerate() {
+        *x = word_at(file, at + RECORD_SIZE * k);
     }
 }

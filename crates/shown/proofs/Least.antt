@@ -1,13 +1,11 @@
 -- The least record of a job in a file, and what stands there. Assumes nothing.
+use Rattle.std.specs.Prelude.{Option, Some}
 use Prim.Native.Nat.{ℕ, ◌+◌, ◌*◌, ◌<◌}
 use mathlib.Core.Path.{◌≡◌, sym, ◌∙◌, ap}
 use mathlib.Core.List.{List}
-use mathlib.Core.Option.{Option, some}
 use lib.Dec.{ltb}
 use native.Mathlib.Omega.{arith}
-use Rattle.base.specs.declared.Found.{Found}
-use Rattle.base.specs.declared.Found.TheVariants.{At}
-use Rattle.base.specs.Find.{first, seen}
+use Rattle.base.specs.Find.{first}
 use Rattle.base.proofs.Find.{Answer, answer, some≢none}
 use Rattle.model.specs.declared.record.Record.{Record}
 use Rattle.model.specs.declared.setting.Setting.{Setting}
@@ -33,13 +31,13 @@ module _ (b : List ℕ) {s : Starts} (z : s ≡ starts_of (read b)) where
       go (Begins.whole_file T w) = rw (T.reads, w) (least_told T q)
 
   -- it is one of the records
-  pub least_below : (q : Job) {f : Found} {k : ℕ} → seen f ≡ least_of (read b) q → f ≡ At k → k < s.count
-  least_below q {f} {k} e w = go (answer _ s.count 0)
+  pub least_below : (q : Job) {k : ℕ} → Some k ≡ least_of (read b) q → k < s.count
+  least_below q {k} e = go (answer _ s.count 0)
     where
       go : Answer (λ k. same_job (job_of (record_at b (s.records + record_size * k))) q) 0 s.count → k < s.count
-      go (Answer.nothing x g) = absurd (some≢none (sym (ap seen w) ∙ e ∙ sym (least_is q) ∙ x))
+      go (Answer.nothing x g) = absurd (some≢none (e ∙ sym (least_is q) ∙ x))
       go (Answer.finds j x h l t g) =
-          let y : some k ≡ some j = sym (ap seen w) ∙ e ∙ sym (least_is q) ∙ x in
+          let y : Some k ≡ Some j = e ∙ sym (least_is q) ∙ x in
           let v : k ≡ j = cc in
           omega arith
 

@@ -1,43 +1,64 @@
 -- From which file a job is shown, one law for each way. Assumes nothing.
+use Rattle.std.specs.Prelude.{None, Option, Some}
 use Prim.Native.Nat.{ℕ}
 use mathlib.Core.Path.{◌≡◌, sym, ◌∙◌, ap, subst}
 use mathlib.Core.Bool.{Bool, true, false}
 use mathlib.Core.List.{List}
-use mathlib.Core.Option.{Option}
 use denote.Ref.{Bor}
-use Rattle.base.specs.declared.Found.{Found}
-use Rattle.base.specs.declared.Found.TheVariants.{At, Nothing}
-use Rattle.base.specs.Find.{seen}
 use Rattle.model.specs.Model.{Job}
-use Rattle.model.specs.File.{read, record_part}
-use Rattle.model.specs.Carry.{Source, in_recorded, least_of, began_before, shown_carried, shown_if, shown_of, shown}
-use Rattle.shown.specs.declared.Place.{Place}
-use Rattle.shown.specs.Shown.{source_at, IsShown}
+use Rattle.model.specs.File.{read, record_part, empty_part}
+use Rattle.model.specs.Carry.{in_recorded, least_of, began_before, shown_carried, shown_if, shown_of, shown}
+use Rattle.reader.specs.LentFile.{starts_of, IsPart, Opens}
+use Rattle.reader.specs.declared.Reader.{Reader}
+use Rattle.shown.specs.Shown.{IsShown}
 
--- what was found in the carried file
-pub carried_at : (c : List ℕ) {o : Option ℕ} {f g : Found} → f ≡ g → seen f ≡ o → shown_carried c (seen g) ≡ shown_carried c o
-carried_at c e s = ap (shown_carried c) (sym (ap seen e) ∙ s)
+-- What a reader of a file is asked is asked of the file.
+-- ------------------------------------------------------
+module _ {file : Bor (List ℕ)} {r : Reader} (O : Opens file r) where
+  same : r.file.now ≡ file.now
+  same = ap (λ f. f.now) O.0
 
-abbrev carried_of : List ℕ → Job → Source
-carried_of c q = shown_carried c (least_of (read c) q)
+  pub sections : r.starts ≡ starts_of (read r.file.now)
+  sections = O.1 ∙ ap (λ b. starts_of (read b)) (sym same)
 
--- what was found in the recorded file
-module _ (b c : List ℕ) (q : Job) {f : Found} (s : seen f ≡ least_of (read b) q) where
-  at : {g : Found} → f ≡ g → least_of (read b) q ≡ seen g
-  at e = sym s ∙ ap seen e
+  pub least_said : (q : Job) {o : Option ℕ} → o ≡ least_of (read r.file.now) q → least_of (read file.now) q ≡ o
+  least_said q e = sym (e ∙ ap (λ b. least_of (read b) q) same)
 
-  pub from_recorded : {k : ℕ} {t : Bool} → f ≡ At k → t ≡ began_before (read b) k → t ≡ true → in_recorded (record_part b k) ≡ shown b c q
+  pub before_said : (k : ℕ) {t : Bool} → t ≡ began_before (read r.file.now) k → began_before (read file.now) k ≡ t
+  before_said k e = sym (e ∙ ap (λ b. began_before (read b) k) same)
+
+-- What is shown, by what was found.
+-- ---------------------------------
+module _ (b c : List ℕ) (q : Job) where
+  -- it is not shown from the recorded file
+  pub record Later : Type 0 where
+    pub carried : shown b c q ≡ shown_carried c (least_of (read c) q)
+
+  pub not_recorded : least_of (read b) q ≡ None → Later
   unfolding shown
-  from_recorded {k} e z t = sym (ap (λ o. shown_of b o (carried_of c q)) (at e) ∙ ap (λ x. shown_if x b k (carried_of c q)) (sym z ∙ t))
+  not_recorded e = record { carried = ap (λ o. shown_of b o (shown_carried c (least_of (read c) q))) e }
 
-  pub from_later : {k : ℕ} {t : Bool} {x : Source} → f ≡ At k → t ≡ began_before (read b) k → t ≡ false → x ≡ carried_of c q → x ≡ shown b c q
+  pub not_before : {k : ℕ} → least_of (read b) q ≡ Some k → began_before (read b) k ≡ false → Later
   unfolding shown
-  from_later {k} e z t w = w ∙ sym (ap (λ o. shown_of b o (carried_of c q)) (at e) ∙ ap (λ x. shown_if x b k (carried_of c q)) (sym z ∙ t))
+  not_before {k} e t =
+      let rest = shown_carried c (least_of (read c) q) in
+      record { carried = ap (λ o. shown_of b o rest) e ∙ ap (λ x. shown_if x b k rest) t }
 
-  pub from_none : {x : Source} → f ≡ Nothing → x ≡ carried_of c q → x ≡ shown b c q
+  recorded_is : {k : ℕ} → least_of (read b) q ≡ Some k → began_before (read b) k ≡ true → shown b c q ≡ in_recorded (record_part b k)
   unfolding shown
-  from_none e w = w ∙ sym (ap (λ o. shown_of b o (carried_of c q)) (at e))
+  recorded_is {k} e t =
+      let rest = shown_carried c (least_of (read c) q) in
+      ap (λ o. shown_of b o rest) e ∙ ap (λ x. shown_if x b k rest) t
 
--- the part of the place that was found is what is shown
-pub shown_at : (r b c : Bor (List ℕ)) (x : Source) {p g : Place} → p ≡ g → source_at b.now c.now p ≡ x → IsShown r b c (source_at b.now c.now g) → IsShown r b c x
-shown_at r b c x e s h = subst (IsShown r b c) (sym (ap (source_at b.now c.now) e) ∙ s) h
+module _ (r recorded carried : Bor (List ℕ)) (q : Job) where
+  pub shown_recorded : {k : ℕ} → least_of (read recorded.now) q ≡ Some k → began_before (read recorded.now) k ≡ true
+      → IsPart r recorded (record_part recorded.now k) → IsShown r recorded carried (shown recorded.now carried.now q)
+  shown_recorded e t h = subst (IsShown r recorded carried) (sym (recorded_is recorded.now carried.now q e t)) h
+
+  pub shown_later : {k : ℕ} → Later recorded.now carried.now q → least_of (read carried.now) q ≡ Some k
+      → IsPart r carried (record_part carried.now k) → IsShown r recorded carried (shown recorded.now carried.now q)
+  shown_later L e h = subst (IsShown r recorded carried) (sym (L.carried ∙ ap (shown_carried carried.now) e)) h
+
+  pub shown_nowhere : Later recorded.now carried.now q → least_of (read carried.now) q ≡ None
+      → IsPart r carried empty_part → IsShown r recorded carried (shown recorded.now carried.now q)
+  shown_nowhere L e h = subst (IsShown r recorded carried) (sym (L.carried ∙ ap (shown_carried carried.now) e)) h

@@ -4,14 +4,13 @@ use mathlib.Core.Path.{◌≡◌, refl, sym, ◌∙◌, ap}
 use mathlib.Core.List.{List, [], ◌∷◌}
 use native.Mathlib.Omega.{arith}
 use lib.ListN.{length, get_or, take}
-use lib.Seq.{length-take-le, get_or-take, take_all}
 use Rattle.carrytheory.proofs.Recorded.{record_job, record_total}
 use Rattle.model.specs.declared.task.Task.{Task}
-use Rattle.model.specs.Model.{Run, Job, most_tasks, total_jobs, job_count, jobs, job_of, rec, task, no_task}
+use Rattle.model.specs.Model.{Run, Job, total_jobs, job_count, jobs, job_of, rec, task}
 use Rattle.model.proofs.Jobs.{jobs_before, before_on, before_within, job_at, existing_jobs}
 use Rattle.openfile.proofs.Leading.{leads_take}
-use Rattle.table.specs.Table.{Sized, Lent, Rows, PutRow}
-use Rattle.table.proofs.LentLaws.{sized_as, lent_none, rows_none, rows_with, rows_all}
+use Rattle.table.specs.Table.{Sized, Rows, PutRow}
+use Rattle.table.proofs.LentLaws.{sized_as, lent_none, rows_none, rows_with}
 use Rattle.standing.specs.WhoseRows.{OfTask, OfTasks}
 
 -- One task
@@ -22,11 +21,6 @@ pub record Tasked (i count : ℕ) (t₀ : List ℕ) (m at : ℕ) (t : List ℕ) 
   pub within : j ≤ count
   pub long : length t ≡ length t₀
   pub rows : (σ : Run) → OfTask σ i at count → Rows 0 2 at σ t₀ m → Rows 0 2 (at + j) σ t m
-
-pub tasked_none : (i count : ℕ) (t : List ℕ) (m at : ℕ) → Tasked i count t m at t 0
-tasked_none i count t m at =
-    let e : at + 0 ≡ at = omega arith in
-    record { within = omega arith; long = refl; rows = λ σ O R. rw e R }
 
 pub tasked_on : {i count : ℕ} {t₀ : List ℕ} {m at : ℕ} {t t' : List ℕ} {j : ℕ} → Tasked i count t₀ m at t j → j < count → at + count ≤ m
     → PutRow m (at + j) 0 (i ∷ j ∷ []) t t' → Tasked i count t₀ m at t' (j + 1)
@@ -51,9 +45,6 @@ module _ {l : List Task} {n H m : ℕ} {σ : Run} (J : OfTasks l n H m σ) where
 
 -- the jobs of the first i tasks are there, in a table t that was t₀
 pub record Listing (l : List Task) (n H : ℕ) (t₀ : List ℕ) (m : ℕ) (t : List ℕ) (at i : ℕ) : Type 0 where
-  pub within : i ≤ n
-  pub room : n ≤ length l
-  pub most : n ≤ most_tasks
   pub long : length t ≡ length t₀
   pub sized : Sized t m
   pub total : total_jobs (take n l) H ≡ m
@@ -63,9 +54,6 @@ pub record Listing (l : List Task) (n H : ℕ) (t₀ : List ℕ) (m : ℕ) (t : 
 pub listing_none : {l : List Task} {n H : ℕ} {t : List ℕ} {m : ℕ} {σ : Run} → Sized t m → OfTasks l n H m σ → Listing l n H t m t 0 0
 listing_none S J =
     record {
-      within = omega arith;
-      room = omega (arith, J.task_total, J.tasks.room);
-      most = omega (arith, J.task_total, J.limits.task_total);
       long = refl;
       sized = S;
       total = of_total J;
@@ -77,15 +65,9 @@ module _ {l : List Task} {n H : ℕ} {t₀ : List ℕ} {m : ℕ} {t : List ℕ} 
   abbrev τs : List Task
   τs = take n l
 
-  long_tasks : length τs ≡ n
-  long_tasks = length-take-le n l L.room
-
-  module _ {c : ℕ} (h : i < n) (is-count : c ≡ job_count (task l i) H) where
-    of_task : c ≡ job_count (task τs i) H
-    of_task = is-count ∙ ap (λ τ. job_count τ H) (sym (get_or-take n l i no_task h))
-
+  module _ {c : ℕ} (h : i < length τs) (is-count : c ≡ job_count (task τs i) H) where
     next_place : at + c ≡ jobs_before τs H (i + 1)
-    next_place = omega (arith, L.place, of_task, before_on τs H i (omega (arith, long_tasks)))
+    next_place = omega (arith, L.place, is-count, before_on τs H i h)
 
     -- there is room for the jobs of task i
     pub fitting : at + c ≤ m
@@ -100,24 +82,15 @@ module _ {l : List Task} {n H : ℕ} {t₀ : List ℕ} {m : ℕ} {t : List ℕ} 
             record_job σ J.jobs (at + j) (omega (arith, fitting, J.count))
             ∙ ap (λ qs. get_or qs (at + j) (0, 0)) (existing_jobs σ σ.setting.horizon ∙ (λ κ. jobs (of_first J κ) (J.horizon κ)))
             ∙ ap (λ k. get_or (jobs τs H) (k + j) (0, 0)) L.place
-            ∙ job_at τs H i j (omega (arith, long_tasks)) (omega (arith, of_task))
+            ∙ job_at τs H i j h (omega (arith, is-count))
 
     pub listing_on : {t' : List ℕ} → length t' ≡ length t → ((σ : Run) → OfTask σ i at c → Rows 0 2 at σ t m → Rows 0 2 (at + c) σ t' m)
         → Listing l n H t₀ m t' (at + c) (i + 1)
     listing_on e put =
         record {
-          within = omega arith;
-          room = L.room;
-          most = L.most;
           long = e ∙ L.long;
           sized = sized_as e L.sized;
           total = L.total;
           place = next_place;
           rows = λ σ J. put σ (next_jobs σ J) (L.rows σ J);
         }
-
-  pub listing_all : n ≤ i → (σ : Run) → OfTasks l n H m σ → Lent 2 σ t m
-  listing_all h σ J =
-      let all : take i τs ≡ τs = take_all i τs (omega (arith, long_tasks)) in
-      let e : at ≡ m = L.place ∙ ap (λ us. total_jobs us H) all ∙ L.total in
-      rows_all (rw e at (L.rows σ J))

@@ -1,7 +1,10 @@
--- Two results that a contract permits are the same: of `open_table`, the table. Assumes nothing.
-use Rattle.base.proofs.Once.{Once}
+-- Two results that a contract permits are the same: of `open_table`, whose contract is the relation `OpensTable`: a function over a struct
+-- that holds a reference has no module `Reads`. Assumes nothing.
+use Prim.Native.Nat.{ℕ}
+use mathlib.Core.Path.{◌≡◌}
+use mathlib.Core.List.{List}
 use Rattle.table.proofs.LentLaws.{lent_same}
-use Rattle.standing.proofs.open_table.Reads as open_table
+use Rattle.standing.specs.Carriable.{OpensTable}
 
-pub open_table_once : Once open_table.Pre open_table.Post (λ r exit. exit.1.1.1.1.0.now)
-open_table_once κs args (long, (ρ, C)) r r' exit exit' p q = lent_same (p ρ C) (q ρ C)
+pub open_table_once : (file : List ℕ) (H' m : ℕ) (t t' : List ℕ) → OpensTable file H' m t → OpensTable file H' m t' → t ≡ t'
+open_table_once file H' m t t' p q = lent_same p q

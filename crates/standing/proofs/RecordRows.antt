@@ -1,8 +1,8 @@
 -- What stands at H, row by row, into a table that has the jobs. Assumes nothing.
+use Rattle.std.specs.Prelude.{Some}
 use Prim.Native.Nat.{ℕ, ◌+◌, ◌*◌, ◌≤◌, ◌<◌}
 use mathlib.Core.Path.{◌≡◌, refl, sym, subst, ◌∙◌, ap}
 use mathlib.Core.List.{List, [], ◌∷◌}
-use mathlib.Core.Option.{some}
 use native.Mathlib.Omega.{arith}
 use lib.ListN.{length, get_or}
 use Rattle.carrytheory.proofs.AtH.{at_opening, job_exists}
@@ -16,7 +16,7 @@ use Rattle.openfile.specs.declared.head.Head.{Head}
 use Rattle.openfile.specs.Head.{Tells}
 use Rattle.openfile.proofs.WholeOrRefused.{tells_limits}
 use Rattle.table.specs.Table.{Lent, Rows, PutRow, Sized, recorded}
-use Rattle.table.proofs.LentLaws.{sized_as, number_of, rows_none, rows_with}
+use Rattle.table.proofs.LentLaws.{sized_as, number_of, rows_with}
 use Rattle.standing.specs.Carriable.{Carriable}
 use Rattle.standing.proofs.OfJob.{found_record}
 
@@ -30,20 +30,6 @@ pub record Opening (b : List ℕ) (h : Head) (l : List Task) (t₀ : List ℕ) (
   pub carriable : Carriable b h l to m run
   pub listed : Lent 2 (opening run to) t₀ m
   pub rows : (ρ : Run) (H' : ℕ) → Carriable b h l H' m ρ → Lent 2 (opening ρ H') t₀ m → Rows 2 recorded k (opening ρ H') t m
-
-pub opening_none : {b : List ℕ} {h : Head} {l : List Task} {t : List ℕ} {m : ℕ} (ρ : Run) (H' : ℕ) → Carriable b h l H' m ρ
-    → Lent 2 (opening ρ H') t m → Opening b h l t m t 0
-opening_none ρ H' C L =
-    record {
-      within = omega arith;
-      long = refl;
-      sized = L.sized;
-      run = ρ;
-      to = H';
-      carriable = C;
-      listed = L;
-      rows = λ σ H D K. rows_none K recorded;
-    }
 
 -- Row k: its job is job j of task i.
 module _ {b : List ℕ} {h : Head} {l : List Task} {t₀ : List ℕ} {m : ℕ} {t : List ℕ} {k : ℕ} (O : Opening b h l t₀ m t k) (is : k < m) where
@@ -90,7 +76,7 @@ module _ {b : List ℕ} {h : Head} {l : List Task} {t₀ : List ℕ} {m : ℕ} {
       let x : Exists (task l i) O.to j = rw (told O.run O.to C O.listed) at (job_is O.run O.to C O.listed).1 in
       omega (arith, C.allowed.most)
 
-  pub place_fits : {p : ℕ} → ((ρ : Run) → Tells b h ρ → Jobs ρ → task ρ.tasks i ≡ task l i → some p ≡ place_of ρ (i, j)) → p < most_records
+  pub place_fits : {p : ℕ} → ((ρ : Run) → Tells b h ρ → Jobs ρ → task ρ.tasks i ≡ task l i → Some p ≡ place_of ρ (i, j)) → p < most_records
   place_fits f =
       let C = O.carriable in
       let w = f O.run C.tells C.jobs (told O.run O.to C O.listed) in

@@ -5,7 +5,9 @@ use Rattle.carrytheory.specs.Allowed.{Allowed}
 use Rattle.model.specs.Model.{Run, existing}
 use Rattle.model.specs.Rules.{Jobs}
 use Rattle.openfile.specs.declared.head.Head.{Head}
-use Rattle.openfile.specs.Head.{Tells, Leads}
+use Rattle.openfile.specs.Head.{Tells, Leads, run_in}
+use Rattle.model.specs.Carry.{opening}
+use Rattle.table.specs.Table.{Lent, columns}
 
 pub record Carriable (b : List ℕ) (h : Head) (l : List Task) (H' m : ℕ) (ρ : Run) : Type 0 where
   pub tells : Tells b h ρ
@@ -13,3 +15,7 @@ pub record Carriable (b : List ℕ) (h : Head) (l : List Task) (H' m : ℕ) (ρ 
   pub jobs : Jobs ρ
   pub allowed : Allowed ρ H'
   pub count : m ≡ length (existing ρ H')
+
+-- the table of what stands at H of the run that a file tells, for the m jobs that exist at H'
+abbrev pub OpensTable : List ℕ → ℕ → ℕ → List ℕ → Type 0
+OpensTable b H' m t = Lent columns (opening (run_in b) H') t m

@@ -12,10 +12,8 @@ fn list_task(i: u32, count: usize, t: &mut [u32], m: usize, at: usize)
     requires { Sized t.old m × (at + count ≤ m) }
     ensures { (σ : Run) → OfTask σ i at count → Rows 0 2 at σ t.old m → Rows 0 2 (at + count) σ t.new m }
 {
-    let mut j = 0;
-    while j < count {
-        put_row(t, m, at + j, TASK, [i, j as u32, 0, 0, 0, 0, 0], 2);
-        j += 1;
+    for j in 0..count {
+        put_row(t, m, at + j, TASK, &[i, j as u32]);
     }
 }
 
@@ -25,12 +23,9 @@ pub(crate) fn list_jobs(tasks: [Task; TASKS], n: u32, horizon: u32, t: &mut [u32
     ensures { (σ : Run) → OfTasks tasks n horizon m σ → Lent 2 σ t.new m }
 {
     let mut at = 0;
-    let mut i = 0;
-    while i < n {
-        let task = tasks[i as usize];
+    for (i, task) in tasks[..n as usize].iter().enumerate() {
         let count = task.jobs(horizon) as usize;
-        list_task(i, count, t, m, at);
+        list_task(i as u32, count, t, m, at);
         at += count;
-        i += 1;
     }
 }

@@ -1,16 +1,18 @@
 -- All turns of the carry: what holds between two of them, and what is left at the end. Assumes nothing.
-use Prim.Native.Nat.{ℕ, zero, ◌+◌, ◌*◌, ◌-◌, ◌^◌, ◌≤◌, ◌<◌, max}
+use Prim.Native.Nat.{ℕ, zero, ◌+◌, ◌*◌, ◌^◌, ◌≤◌, ◌<◌, max}
 use mathlib.Core.Path.{◌≡◌, refl, sym, ◌∙◌, ap, subst}
-use mathlib.Core.Logic.{◌⊎◌, inl, inr}
 use mathlib.Core.List.{List}
 use native.Mathlib.Omega.{arith}
 use native.Mathlib.Decide.{dec_lt}
+use lib.Dec.{eqb}
 use lib.ListN.{length, get_or, get_or-eq_default}
+use Rattle.base.specs.Find.{count}
+use Rattle.base.proofs.Same.{count_same}
 use Rattle.model.specs.Model.{Run, rec, task_of, most_time, most_cores}
 use Rattle.model.specs.Rules.{Jobs}
-use Rattle.model.specs.Carry.{starts, opening, carried}
+use Rattle.model.specs.Carry.{starts, not_begun, opening, carried}
 use Rattle.model.specs.Compute.Jumps.{waiting, start_all, carry_by_starts}
-use Rattle.carrytheory.proofs.Waiting.{Waits, waits, waiting_size}
+use Rattle.carrytheory.proofs.Waiting.{Waits, waits}
 use Rattle.carrytheory.proofs.Readiness.{some_least_waits}
 use Rattle.carrytheory.proofs.StartChanges.{rule1_stays}
 use Rattle.carrytheory.proofs.ByStarts.{carried_by_starts}
@@ -22,17 +24,25 @@ use Rattle.table.proofs.LentLaws.{number_of}
 use Rattle.starts.specs.Opened.{Opened}
 use Rattle.starts.specs.Choice.{HasTurn, Chosen}
 use Rattle.starts.specs.Cores.{Lasts, LeastOf, Takes}
-use Rattle.starts.specs.declared.cores.Taken.{Taken}
+use Rattle.starts.specs.declared.cores.Cores.{Cores}
 use Rattle.starts.proofs.State.{core_of}
 use Rattle.starts.proofs.LastEnds.{Ends, ends_of, ends_then}
 use Rattle.starts.proofs.OneTurn.{begun_turn, chosen_record, chosen_waits, turn, turn_fits}
 
--- The carry of σ₀ from H on has come to a run with this table at instant v, with no more jobs to begin than turns are left; and the
--- last ends on its N cores are known.
-pub record Reached (σ₀ : Run) (H N : ℕ) (t : List ℕ) (n : ℕ) (T : Taken) (v left : ℕ) : Type 0 where
+-- how many of the n jobs of a table have not begun
+pub left_in : ℕ → List ℕ → ℕ
+left_in n t = count (λ k. eqb (get_or t (5 * n + k) 0) 0) n
+
+left_is : {σ : Run} {t : List ℕ} {n : ℕ} → Lent columns σ t n → left_in n t ≡ waiting σ
+unfolding left_in waiting
+left_is {σ} {t} {n} L =
+    count_same (λ k. eqb (get_or t (5 * n + k) 0) 0) (not_begun σ) n (λ k h. ap (λ c. eqb c 0) (L.number 5 k (omega arith) h))
+    ∙ ap (count (not_begun σ)) L.count
+
+-- The carry of σ₀ from H on has come to a run with this table at instant v; and the last ends on its N cores are known.
+pub record Reached (σ₀ : Run) (H N : ℕ) (t : List ℕ) (n : ℕ) (T : Cores) (v : ℕ) : Type 0 where
   pub run : Run
   pub jobs_left : ℕ
-  pub turns : jobs_left ≤ left
   pub going : Going σ₀ H most_time jobs_left v run
   pub table : Lent columns run t n
   pub jobs : Jobs run
@@ -65,12 +75,11 @@ module _ {ρ : Run} {H' N H : ℕ} {t : List ℕ} {n : ℕ} (X : Opened ρ H' N 
             omega (arith, going.inv.cores k (omega (arith, X.table.count)), X.table.limits.setting.cores)
         go (no h) = omega (arith, get_or-eq_default cs 0 {n = k} (omega (arith, h)))
 
-    pub reached_first : {T : Taken} → Lasts (length cs) cs es T.ends → LeastOf T.ends (N + 1) T.least → Reached (opening ρ H') H N t n T H n
+    pub reached_first : {T : Cores} → Lasts (length cs) cs es T.ends → LeastOf T.ends (N + 1) T.least → Reached (opening ρ H') H N t n T H
     reached_first L F =
         record {
           run = σ;
           jobs_left = waiting σ;
-          turns = omega (arith, waiting_size σ, X.table.count);
           going = going;
           table = X.table;
           jobs = opening_jobs ρ H';
@@ -81,7 +90,7 @@ module _ {ρ : Run} {H' N H : ℕ} {t : List ℕ} {n : ℕ} (X : Opened ρ H' N 
 
 -- From turn to turn
 -- -----------------
-module _ {σ₀ : Run} {H N : ℕ} {t : List ℕ} {n : ℕ} {T : Taken} {v left : ℕ} (R : Reached σ₀ H N t n T v left) where
+module _ {σ₀ : Run} {H N : ℕ} {t : List ℕ} {n : ℕ} {T : Cores} {v : ℕ} (R : Reached σ₀ H N t n T v) where
   pub some_cores : (1 ≤ N) × (N ≤ most_cores)
   some_cores = omega (arith, R.cores, R.table.limits.setting.cores)
 
@@ -99,50 +108,57 @@ module _ {σ₀ : Run} {H N : ℕ} {t : List ℕ} {n : ℕ} {T : Taken} {v left 
     pub core_free : (d : ℕ) × (1 ≤ d) × (d ≤ N) × (get_or T.ends d 0 ≤ u)
     core_free = let F = R.least in (F.core, F.core_is.0, omega (arith, F.core_is.1), omega (arith, F.here, C.at))
 
-    pub reached_on : {T' : Taken} {t' : List ℕ} → Takes T.ends N u (u + get_or t (9 * n + k) 0) T'
-        → ((σ : Run) → Jobs σ → Lent columns σ t n → u + get_or t (9 * n + k) 0 ≡ u + (task_of σ k).greatest → Lent columns (starts σ u k T'.core) t' n)
-        → Reached σ₀ H N t' n T' u (left - 1)
-    reached_on {T'} {t'} K put =
-        let c = T'.core in
-        let (m, e, G) = turn R.going R.table R.jobs R.cores R.ends R.least C K in
-        let z : u + get_or t (9 * n + k) 0 ≡ u + (task_of R.run k).greatest = ap (λ x. u + x) time in
-        record {
-          run = starts R.run u k c;
-          jobs_left = m;
-          turns = omega (arith, R.turns);
-          going = G;
-          table = put R.run R.jobs R.table z;
-          jobs = rule1_stays R.run u k c (task_of R.run k).greatest R.jobs;
-          cores = R.cores;
-          ends =
-              rw (K.ends, z)
-              (ends_then R.run u k c (chosen_record R.jobs R.table C) (chosen_waits R.jobs R.table C) R.ends K.core.0
-              (omega (arith, K.core.1, some_cores)) K.free);
-          least = K.least;
-        }
+    module _ {T' : Cores} {c : ℕ} (K : Takes T.ends N u (u + get_or t (9 * n + k) 0) c T') {t' : List ℕ}
+        (put : (σ : Run) → Jobs σ → Lent columns σ t n → u + get_or t (9 * n + k) 0 ≡ u + (task_of σ k).greatest → Lent columns (starts σ u k c) t' n) where
+      ends : u + get_or t (9 * n + k) 0 ≡ u + (task_of R.run k).greatest
+      ends = ap (λ x. u + x) time
 
-  -- no turn is left, or it is no job's turn
-  pub all_begun : (left ≡ 0) ⊎ ((j : ℕ) → j < n → ¬ HasTurn (column_of n t 5) (column_of n t 1) j) → Lent columns (start_all (waiting σ₀) H σ₀) t n
-  all_begun why =
-      let G : Going σ₀ H most_time zero v R.run = subst (λ m. Going σ₀ H most_time m v R.run) (over why (waits R.run)) R.going in
+      table_then : Lent columns (starts R.run u k c) t' n
+      table_then = put R.run R.jobs R.table ends
+
+      pub reached_on : Reached σ₀ H N t' n T' u
+      reached_on =
+          let (m, e, G) = turn R.going R.table R.jobs R.cores R.ends R.least C K in
+          record {
+            run = starts R.run u k c;
+            jobs_left = m;
+            going = G;
+            table = table_then;
+            jobs = rule1_stays R.run u k c (task_of R.run k).greatest R.jobs;
+            cores = R.cores;
+            ends =
+                rw (K.ends, ends)
+                (ends_then R.run u k c (chosen_record R.jobs R.table C) (chosen_waits R.jobs R.table C) R.ends K.core.0
+                (omega (arith, K.core.1, some_cores)) K.free);
+            least = K.least;
+          }
+
+      -- one job fewer is left
+      pub fewer_left : left_in n t' < left_in n t
+      fewer_left =
+          let (m, e, G) = turn R.going R.table R.jobs R.cores R.ends R.least C K in
+          omega (arith, left_is table_then, left_is R.table, R.going.left, G.left)
+
+  -- it is no job's turn
+  pub all_begun : ((j : ℕ) → j < n → ¬ HasTurn (column_of n t 5) (column_of n t 1) j) → Lent columns (start_all (waiting σ₀) H σ₀) t n
+  all_begun f =
+      let G : Going σ₀ H most_time zero v R.run = subst (λ m. Going σ₀ H most_time m v R.run) (over (waits R.run)) R.going in
       rw (going_done σ₀ H most_time v R.run G).1 R.table
     where
-      over : (left ≡ 0) ⊎ ((j : ℕ) → j < n → ¬ HasTurn (column_of n t 5) (column_of n t 1) j) → Waits R.run → R.jobs_left ≡ 0
-      over (inl z) w = omega (arith, R.turns)
-      over (inr f) (Waits.nobody z g) = omega (arith, R.going.left)
-      over (inr f) (Waits.one i z j h c) =
+      over : Waits R.run → R.jobs_left ≡ 0
+      over (Waits.nobody z g) = omega (arith, R.going.left)
+      over (Waits.one i z j h c) =
           let (k, g, w, b) = some_least_waits R.run j h c in
           let l : k < n = omega (arith, R.table.count) in
           absurd (f k l (begun_turn R.jobs R.table k l w b))
 
--- From the table of what stands at H, of whatever run, the carry has come to the present one, which is as long.
-pub record Comes (N H : ℕ) (t₀ : List ℕ) (n : ℕ) (t : List ℕ) (T : Taken) (v left : ℕ) : Type 0 where
-  pub long : length t ≡ length t₀
-  pub reached : (ρ : Run) (H' : ℕ) → Opened ρ H' N H t₀ n → Reached (opening ρ H') H N t n T v left
+-- From the table of what stands at H, of whatever run, the carry has come to the present one.
+pub record Comes (N H : ℕ) (t₀ : List ℕ) (n : ℕ) (t : List ℕ) (T : Cores) (v : ℕ) : Type 0 where
+  pub reached : (ρ : Run) (H' : ℕ) → Opened ρ H' N H t₀ n → Reached (opening ρ H') H N t n T v
 
-pub comes_done : {N H : ℕ} {t₀ : List ℕ} {n : ℕ} {t : List ℕ} {T : Taken} {v left : ℕ} → Comes N H t₀ n t T v left
-    → (left ≡ 0) ⊎ ((j : ℕ) → j < n → ¬ HasTurn (column_of n t 5) (column_of n t 1) j)
+pub comes_done : {N H : ℕ} {t₀ : List ℕ} {n : ℕ} {t : List ℕ} {T : Cores} {v : ℕ} → Comes N H t₀ n t T v
+    → ((j : ℕ) → j < n → ¬ HasTurn (column_of n t 5) (column_of n t 1) j)
     → (ρ : Run) (H' : ℕ) → Opened ρ H' N H t₀ n → Lent columns (carried ρ H') t n
 unfolding carry_by_starts
-comes_done Z why ρ H' X =
-    rw (carried_by_starts ρ H' ∙ ap (λ h. start_all (waiting (opening ρ H')) h (opening ρ H')) (sym X.horizon)) (all_begun (Z.reached ρ H' X) why)
+comes_done Z f ρ H' X =
+    rw (carried_by_starts ρ H' ∙ ap (λ h. start_all (waiting (opening ρ H')) h (opening ρ H')) (sym X.horizon)) (all_begun (Z.reached ρ H' X) f)

@@ -1,9 +1,9 @@
 -- The cores' last ends: what the columns tell of them, what a start changes, and which core is free. Assumes nothing.
+use Rattle.std.specs.Prelude.{Some}
 use Prim.Native.Nat.{ℕ, ◌+◌, ◌≤◌, ◌<◌}
 use mathlib.Core.Path.{◌≡◌, refl, sym, ◌∙◌}
 use mathlib.Core.Logic.{◌⊎◌, inl, inr}
 use mathlib.Core.List.{List}
-use mathlib.Core.Option.{some}
 use native.Mathlib.Omega.{arith}
 use native.Mathlib.Decide.{ℕ_discrete}
 use lib.ListN.{length, get_or, set, length-set}
@@ -17,7 +17,7 @@ use Rattle.carrytheory.proofs.StartChanges.{is_record, still_record, here, elsew
 use Rattle.carrytheory.proofs.NextInstant.{LastEnd, LeastFree}
 use Rattle.table.specs.Table.{Lent, columns, column_of}
 use Rattle.starts.specs.Cores.{EndsAt, LastOf, Lasts, LeastOf, Takes}
-use Rattle.starts.specs.declared.cores.Taken.{Taken}
+use Rattle.starts.specs.declared.cores.Cores.{Cores}
 use Rattle.starts.proofs.Taking.{at_set}
 use Rattle.starts.proofs.State.{end_of, core_of}
 
@@ -109,7 +109,7 @@ module _ {σ : Run} {xs : List ℕ} (E : Ends σ xs) {N : ℕ} (cores : N ≡ σ
         least = λ d i. (get_or xs d 0, ends_at d i.0 (omega (arith, i.1)), F.least d i.0 (omega (arith, i.1)));
       }
 
-  module _ {u e : ℕ} {R : Taken} (K : Takes xs N u e R) (past : (k : ℕ) → IsRecord σ k → Begun σ k → (rec σ k).start ≤ u) where
+  module _ {u e c : ℕ} {R : Cores} (K : Takes xs N u e c R) (past : (k : ℕ) → IsRecord σ k → Begun σ k → (rec σ k).start ≤ u) where
     -- a core whose last end is to come is busy
     still_busy : (d : ℕ) → 1 ≤ d → d ≤ N → u < get_or xs d 0 → Busy σ d u
     still_busy d h b l = go (ends_at d h b).reached
@@ -118,13 +118,13 @@ module _ {σ : Run} {xs : List ℕ} (E : Ends σ xs) {N : ℕ} (cores : N ≡ σ
         go (inl z) = absurd (omega arith)
         go (inr (k, g, p, q)) = (k, g, p, past k g (omega arith), omega arith)
 
-    pub idle_core_lem : idle_core σ u ≡ some R.core
+    pub idle_core_lem : idle_core σ u ≡ Some c
     idle_core_lem =
-        (finds_some _ _ (idle_core_finds σ u) total_number R.core).1
+        (finds_some _ _ (idle_core_finds σ u) total_number c).1
         (record {
           here = ((K.core.0, omega (arith, K.core.1)), free);
           before = λ d l w. w.1 (still_busy d w.0.0 (omega (arith, l, K.core)) (K.lowest d w.0.0 l));
         })
       where
-        free : ¬ Busy σ R.core u
-        free (k, g, p, q, r) = omega (arith, (ends_at R.core K.core.0 K.core.1).none_later k g p, K.free)
+        free : ¬ Busy σ c u
+        free (k, g, p, q, r) = omega (arith, (ends_at c K.core.0 K.core.1).none_later k g p, K.free)

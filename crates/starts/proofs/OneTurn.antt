@@ -1,9 +1,9 @@
 -- One turn of the carry: the job that is chosen is the next to start, on the core that is taken. Assumes nothing.
+use Rattle.std.specs.Prelude.{Some}
 use Prim.Native.Nat.{ℕ, suc, ◌+◌, ◌-◌, ◌^◌, ◌≤◌, ◌<◌, max}
 use mathlib.Core.Path.{◌≡◌, sym, ◌∙◌, ap, subst}
 use mathlib.Core.Logic.{◌⊎◌, inl, inr}
 use mathlib.Core.List.{List}
-use mathlib.Core.Option.{some}
 use native.Mathlib.Omega.{arith}
 use native.Mathlib.Decide.{ℕ_discrete, dec_le, dec_lt}
 use lib.ListN.{get_or}
@@ -22,7 +22,7 @@ use Rattle.carrytheory.proofs.NextInstant.{ready_fits, starts_there}
 use Rattle.table.specs.Table.{Lent, columns, column_of}
 use Rattle.starts.specs.Choice.{NoLater, HasTurn, Chosen}
 use Rattle.starts.specs.Cores.{LeastOf, Takes}
-use Rattle.starts.specs.declared.cores.Taken.{Taken}
+use Rattle.starts.specs.declared.cores.Cores.{Cores}
 use Rattle.starts.proofs.State.{job_of_lem, core_of, rank_of, ready_of}
 use Rattle.starts.proofs.LastEnds.{Ends, least_free, idle_core_lem}
 
@@ -149,16 +149,16 @@ module _ {σ₀ σ : Run} {H w m v : ℕ} (G : Going σ₀ H w m v σ) {t : List
   turn_fits =
       rw (chosen_ready J T C) at (ready_fits σ₀ H w one_less.0 v σ going f (least_free E cores few F) k (chosen_record J T C))
 
-  pub turn : {e : ℕ} {R : Taken} → Takes xs N u e R → (i : ℕ) × (m ≡ suc i) × Going σ₀ H w i u (starts σ u k R.core)
+  pub turn : {e c : ℕ} {R : Cores} → Takes xs N u e c R → (i : ℕ) × (m ≡ suc i) × Going σ₀ H w i u (starts σ u k c)
   unfolding start_at
-  turn {e} {R} K = (
+  turn {e} {c} {R} K = (
     one_less.0,
     one_less.1,
-    starts_there σ₀ H w one_less.0 v σ going f (least_free E cores few F) u k R.core start_here (chosen_ready J T C) (chosen_least J T C),
+    starts_there σ₀ H w one_less.0 v σ going f (least_free E cores few F) u k c start_here (chosen_ready J T C) (chosen_least J T C),
   )
     where
-      start_here : start_at σ u ≡ some (k, R.core)
+      start_here : start_at σ u ≡ Some (k, c)
       start_here =
-          let p : next σ u ≡ some k = (next_iff σ (one_record σ J) u k).1 (is_next J T C) in
+          let p : next σ u ≡ Some k = (next_iff σ (one_record σ J) u k).1 (is_next J T C) in
           let q = idle_core_lem E cores few K (λ j h b. omega (arith, G.inv.past j h b, C.at)) in
           rw (p, q)

@@ -1,9 +1,9 @@
 -- A run and its table: what the columns that a carry reads tell, and what a start changes of both. Assumes nothing.
+use Rattle.std.specs.Prelude.{Some}
 use Prim.Native.Nat.{ℕ, zero, suc, ◌+◌, ◌*◌, ◌≤◌, ◌<◌, max}
 use mathlib.Core.Path.{◌≡◌, refl, sym, ◌∙◌, ap, subst}
 use mathlib.Core.Logic.{◌⊎◌, inl, inr}
 use mathlib.Core.List.{List, [], ◌∷◌, ◌++◌}
-use mathlib.Core.Option.{some}
 use native.Mathlib.Omega.{arith}
 use native.Mathlib.Decide.{ℕ_discrete}
 use lib.ListN.{length, get_or, take, drop, get_or-append}
@@ -91,7 +91,7 @@ module _ (σ : Run) (u k c : ℕ) (range : IsRecord σ k) where
 
   -- the ready instant changes of the next job of its task alone
   module _ (J : Jobs σ) where
-    next_only : (a : ℕ) → IsRecord σ a → preceding σ a ≡ some k → (suc k ≡ a) × (1 ≤ (rec σ a).job)
+    next_only : (a : ℕ) → IsRecord σ a → preceding σ a ≡ Some k → (suc k ≡ a) × (1 ≤ (rec σ a).job)
     next_only a h e = (before_record σ J a k h e, omega (arith, (preceding_is σ a k e).one_less))
 
     pub ready_same : (a : ℕ) → IsRecord σ a → (¬ (a ≡ suc k)) ⊎ ((rec σ a).job ≡ 0) → ready (starts σ u k c) a ≡ ready σ a

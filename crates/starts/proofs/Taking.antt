@@ -1,15 +1,16 @@
--- The cores: what one more job changes of their last ends, and one more core of the core that is taken. Assumes nothing.
-use Prim.Native.Nat.{ℕ, zero, suc, ◌+◌, ◌≤◌, ◌<◌, min, max}
-use mathlib.Core.Path.{◌≡◌, refl, sym, ◌∙◌, ap}
-use mathlib.Core.Logic.{◌⊎◌, inl, inr}
+-- The cores: what one more job changes of their last ends, the least of these, and the core that is taken. Assumes nothing.
+use Rattle.std.specs.Prelude.{None, Option, Some, MatchOption, IsSome}
+use Prim.Native.Nat.{ℕ, zero, suc, ◌+◌, ◌-◌, ◌≤◌, ◌<◌, max}
+use mathlib.Core.Path.{◌≡◌, refl, sym, subst, ◌∙◌, ap}
+use mathlib.Core.Logic.{inl, inr}
 use mathlib.Core.List.{List}
 use native.Mathlib.Omega.{arith}
 use native.Mathlib.Decide.{ℕ_discrete, dec_le}
-use lib.ListN.{length, get_or, set, replicate, length-set}
-use lib.Seq.{get_or-set_same, get_or-set_other}
+use borrow.Author.Rules.{rules}
+use lib.ListN.{length, get_or, set, take, drop, replicate, length-set, length-drop}
+use lib.Seq.{get_or-set_same, get_or-set_other, get_or-take, get_or-drop, length-take-le}
 use Rattle.model.specs.Model.{most_cores}
-use Rattle.starts.specs.Cores.{EndsAt, LastOf, Lasts, LeastOf, EndOf, Taking, Takes}
-use Rattle.starts.specs.declared.cores.Taken.{Taken}
+use Rattle.starts.specs.Cores.{EndsAt, LastOf, Lasts, LeastOf}
 use Rattle.starts.proofs.Choosing.{below_one}
 
 -- what is asked of entry d of a list that is written at c
@@ -69,107 +70,39 @@ module _ {cs es : List ℕ} where
           go (no y) (inl z) = inl (omega (arith, y))
           go (no y) (inr (k, l, p, q)) = inr (k, l, p, omega (arith, y))
 
--- The least of them
--- -----------------
-module _ {xs : List ℕ} where
-  pub least_one : LeastOf xs 2 (get_or xs 1 0)
-  least_one = record { core = 1; core_is = omega arith; here = refl; least = λ d h b. let e : d ≡ 1 = omega arith in rw e (omega arith) }
+-- The least of them, in the part of the list that is of the cores 1 to n
+-- ------------------------------------------------------------------------
+pub least_in : {xs ys : List ℕ} (n : ℕ) {f : ℕ} → ys ≡ take (n + 1 - 1) (drop 1 xs) → n < length xs → (k : ℕ) × (k < length ys) × (get_or ys k 0 ≡ f)
+    → ((k : ℕ) → k < length ys → f ≤ get_or ys k 0) → LeastOf xs (n + 1) f
+least_in {xs} {ys} n {f} e few (k, l, z) h =
+    record {
+      core = 1 + k;
+      core_is = omega (arith, long);
+      here = sym (at k (omega (arith, long))) ∙ z;
+      least = λ d a b.
+          let w : d ≡ 1 + (d - 1) = omega arith in
+          rw w (rw (at (d - 1) (omega arith)) at (h (d - 1) (omega (arith, long))));
+    }
+  where
+    long : length ys ≡ n
+    long = ap length e ∙ length-take-le (n + 1 - 1) (drop 1 xs) (simp length-drop (omega arith)) ∙ omega arith
 
-  pub least_more : {m f : ℕ} → 1 ≤ m → LeastOf xs m f → LeastOf xs (m + 1) (min f (get_or xs m 0))
-  least_more {m} {f} h L = go (dec_le f (get_or xs m 0))
-    where
-      least : (d : ℕ) → 1 ≤ d → d < m + 1 → min f (get_or xs m 0) ≤ get_or xs d 0
-      least d g b =
-          below_one (λ d. 1 ≤ d → min f (get_or xs m 0) ≤ get_or xs d 0) m (λ d b g. omega (arith, L.least d g b)) (λ g. omega arith) d b g
-
-      go : Dec (f ≤ get_or xs m 0) → LeastOf xs (m + 1) (min f (get_or xs m 0))
-      go (yes l) = record { core = L.core; core_is = omega (arith, L.core_is); here = omega (arith, L.here); least = least }
-      go (no l) = record { core = m; core_is = omega arith; here = omega (arith, l); least = least }
+    at : (k : ℕ) → k < n → get_or ys k 0 ≡ get_or xs (1 + k) 0
+    at k l = ap (λ us. get_or us k 0) e ∙ get_or-take (n + 1 - 1) (drop 1 xs) k 0 (omega arith) ∙ get_or-drop 1 xs k 0
 
 -- The core that is taken
 -- ----------------------
-module _ {xs : List ℕ} {t e : ℕ} where
-  pub none_taken : {s : Taken} → length s.ends ≡ most_cores + 1 → s.ends ≡ xs → s.core ≡ 0 → s.least ≡ e → Taking xs t e 1 s
-  none_taken l w z f =
-      record {
-        count = l;
-        core = omega arith;
-        nothing = λ y. (w, λ d h b. absurd (omega arith));
-        taken = λ y. absurd (omega arith);
-        most = omega arith;
-        least = λ d h b. absurd (omega arith);
-        reached = inl f;
-      }
 
-  module _ {m : ℕ} (low : 1 ≤ m) (high : m ≤ most_cores) {s : Taken} (T : Taking xs t e m s) where
-    -- core m has not been written
-    as_it_was : get_or s.ends m 0 ≡ get_or xs m 0
-    as_it_was = go (dec_le 1 s.core)
-      where
-        go : Dec (1 ≤ s.core) → get_or s.ends m 0 ≡ get_or xs m 0
-        go (yes h) = rw (T.taken h).0 (get_or-set_other xs s.core m e 0 (λ z. omega (arith, T.core)))
-        go (no h) = let z : s.core ≡ 0 = omega (arith, h) in ap (λ l. get_or l m 0) (T.nothing z).0
+-- the first of the cores 1 to n that is free at t, if one is
+abbrev pub Tried : List ℕ → ℕ → ℕ → Option ℕ → Type 0
+Tried xs n t r =
+    MatchOption r ((k : ℕ) → 1 ≤ k → k < n + 1 → t < get_or xs k 0)
+    (λ c. (1 ≤ c) × (c < n + 1) × (get_or xs c 0 ≤ t) × ((d : ℕ) → 1 ≤ d → d < c → t < get_or xs d 0))
 
-    -- no core is taken yet, and core m is free
-    pub take_it : s.core ≡ 0 → get_or s.ends m 0 ≤ t → Taking xs t e (m + 1) (record { ends = set s.ends m e; core = m; least = s.least })
-    take_it z free =
-        record {
-          count = length-set s.ends m e ∙ T.count;
-          core = omega arith;
-          nothing = λ y. absurd (omega arith);
-          taken = λ y. (ap (λ l. set l m e) (T.nothing z).0, omega (arith, as_it_was), (T.nothing z).1);
-          most = T.most;
-          least = λ d h b. at_set (λ d y. s.least ≤ y) s.ends m e (omega (arith, T.count)) T.most d (λ f. T.least d h (omega (arith, f)));
-          reached = go T.reached;
-        }
-      where
-        go : EndOf s.ends m e s.least → EndOf (set s.ends m e) (m + 1) e s.least
-        go (inl y) = inl y
-        go (inr (d, h, b, y)) = inr (d, h, omega arith, get_or-set_other s.ends m d e 0 (λ z. omega arith) ∙ y)
+module _ (xs : List ℕ) (n t : ℕ) where
+  pub some_free : (r : Option ℕ) → Tried xs n t r → (d : ℕ) × (1 ≤ d) × (d ≤ n) × (get_or xs d 0 ≤ t) → IsSome r
+  some_free None T (d, a, b, f) = let l = T d a (omega arith) in absurd (omega arith)
+  some_free (Some c) T w = search rules
 
-    -- a core is taken, or core m is not free
-    pub pass_it : (¬ (s.core ≡ 0)) ⊎ (t < get_or s.ends m 0)
-        → Taking xs t e (m + 1) (record { ends = s.ends; core = s.core; least = min s.least (get_or s.ends m 0) })
-    pass_it why =
-        record {
-          count = T.count;
-          core = omega (arith, T.core);
-          nothing = λ z. (
-            (T.nothing z).0,
-            λ d h b. below_one (λ d. 1 ≤ d → t < get_or xs d 0) m (λ d b h. (T.nothing z).1 d h b) (λ h. busy z why) d b h,
-          );
-          taken = T.taken;
-          most = omega (arith, T.most);
-          least = λ d h b.
-              below_one (λ d. 1 ≤ d → min s.least (get_or s.ends m 0) ≤ get_or s.ends d 0) m
-              (λ d b h. omega (arith, T.least d h b)) (λ h. omega arith) d b h;
-          reached = go (dec_le s.least (get_or s.ends m 0)) T.reached;
-        }
-      where
-        busy : s.core ≡ 0 → (¬ (s.core ≡ 0)) ⊎ (t < get_or s.ends m 0) → t < get_or xs m 0
-        busy z (inl f) = absurd (f z)
-        busy z (inr f) = omega (arith, as_it_was)
-
-        go : Dec (s.least ≤ get_or s.ends m 0) → EndOf s.ends m e s.least → EndOf s.ends (m + 1) e (min s.least (get_or s.ends m 0))
-        go (no f) r = inr (m, low, omega arith, omega (arith, f))
-        go (yes f) (inl y) = inl (omega arith)
-        go (yes f) (inr (d, h, b, y)) = inr (d, h, omega arith, omega arith)
-
-  -- one of the cores is free
-  pub all_tried : {n : ℕ} {s : Taken} → n ≤ most_cores → (d : ℕ) × (1 ≤ d) × (d ≤ n) × (get_or xs d 0 ≤ t) → Taking xs t e (n + 1) s → Takes xs n t e s
-  all_tried {n} {s} few (d, h, b, free) T = go (dec_le 1 s.core)
-    where
-      go : Dec (1 ≤ s.core) → Takes xs n t e s
-      go (no f) = absurd (omega (arith, (T.nothing (omega (arith, f))).1 d h (omega arith)))
-      go (yes f) =
-          let (ends, was_free, lowest) = T.taken f in
-          record { core = omega (arith, T.core); ends = ends; free = was_free; lowest = lowest; least = found T.reached }
-        where
-          here : get_or s.ends s.core 0 ≡ e
-          here =
-              let w = (T.taken f).0 in
-              rw w (get_or-set_same xs s.core e 0 (omega (arith, T.core, T.count, ap length w, length-set xs s.core e)))
-
-          found : EndOf s.ends (n + 1) e s.least → LeastOf s.ends (n + 1) s.least
-          found (inl z) = record { core = s.core; core_is = (f, T.core); here = here ∙ sym z; least = T.least }
-          found (inr (j, p, q, y)) = record { core = j; core_is = (p, q); here = y; least = T.least }
+  pub free_at : {r : Option ℕ} {c : ℕ} → r ≡ Some c → Tried xs n t r → Tried xs n t (Some c)
+  free_at e T = subst (Tried xs n t) e T

@@ -1,6 +1,5 @@
 -- What is chosen of the columns: the job that starts next.
-use Rattle.std.specs.Prelude.{ℕ, ◌-◌, ◌≤◌, ◌<◌, max, ◌≡◌, ◌⊎◌, Bool, not, ◌&&◌, ◌||◌, List, [], ◌∷◌, eqb, get_or}
-use Rattle.std.proofs.Math.Option.{Option, none, some}
+use Rattle.std.specs.Prelude.{ℕ, ◌-◌, ◌≤◌, ◌<◌, max, ◌≡◌, ◌⊎◌, Bool, not, ◌&&◌, ◌||◌, List, [], ◌∷◌, eqb, get_or, None, Option, Some}
 use Rattle.base.specs.Columns.{Columns}
 use Rattle.model.specs.Model.{most_records}
 
@@ -25,8 +24,8 @@ pub record Chosen (n v : ℕ) (cs js rs ds : List ℕ) (u k : ℕ) : Type 0 wher
 
 -- What is found is chosen, and where nothing is found it is no job's turn.
 pub record Choice (n v : ℕ) (cs js rs ds : List ℕ) (o : Option (ℕ × ℕ)) : Type 0 where
-  pub chosen : (u k : ℕ) → o ≡ some (u, k) → Chosen n v cs js rs ds u k
-  pub nobody : o ≡ none → (j : ℕ) → j < n → ¬ HasTurn cs js j
+  pub chosen : (u k : ℕ) → o ≡ Some (u, k) → Chosen n v cs js rs ds u k
+  pub nobody : o ≡ None → (j : ℕ) → j < n → ¬ HasTurn cs js j
 
 -- The columns that a choice is made of, side by side; the first record is of its task's first job.
 pub record Choosable (cs js rs ds : List ℕ) : Type 0 where

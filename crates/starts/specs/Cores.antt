@@ -2,7 +2,7 @@
 use Rattle.std.specs.Prelude.{ℕ, ◌+◌, ◌≤◌, ◌<◌, ◌≡◌, ◌⊎◌, List, [], ◌∷◌, length, get_or, set}
 use Rattle.base.specs.Columns.{Beside}
 use Rattle.model.specs.Model.{most_cores}
-use Rattle.starts.specs.declared.cores.Taken.{Taken}
+use Rattle.starts.specs.declared.cores.Cores.{Cores}
 
 -- ends, and the cores on which: none above the most
 pub record Ran (es cs : List ℕ) : Type 0 where
@@ -30,25 +30,10 @@ pub record LeastOf (xs : List ℕ) (m f : ℕ) : Type 0 where
   pub here : get_or xs core 0 ≡ f
   pub least : (d : ℕ) → 1 ≤ d → d < m → f ≤ get_or xs d 0
 
--- f is the last end of one of the cores below m, or it is e
-abbrev pub EndOf : List ℕ → ℕ → ℕ → ℕ → Type 0
-EndOf xs m e f = (f ≡ e) ⊎ ((d : ℕ) × (1 ≤ d) × (d < m) × (get_or xs d 0 ≡ f))
-
--- Of the cores below m the lowest that is free at t, if there is one, is taken until e; and of their last ends then, and e, the
--- least is known.
-pub record Taking (xs : List ℕ) (t e m : ℕ) (s : Taken) : Type 0 where
-  pub count : length s.ends ≡ most_cores + 1
-  pub core : s.core < m
-  pub nothing : s.core ≡ 0 → (s.ends ≡ xs) × ((d : ℕ) → 1 ≤ d → d < m → t < get_or xs d 0)
-  pub taken : 1 ≤ s.core → (s.ends ≡ set xs s.core e) × (get_or xs s.core 0 ≤ t) × ((d : ℕ) → 1 ≤ d → d < s.core → t < get_or xs d 0)
-  pub most : s.least ≤ e
-  pub least : (d : ℕ) → 1 ≤ d → d < m → s.least ≤ get_or s.ends d 0
-  pub reached : EndOf s.ends m e s.least
-
--- The lowest of the cores 1 to n that is free at t is taken until e.
-pub record Takes (xs : List ℕ) (n t e : ℕ) (s : Taken) : Type 0 where
-  pub core : (1 ≤ s.core) × (s.core ≤ n)
-  pub ends : s.ends ≡ set xs s.core e
-  pub free : get_or xs s.core 0 ≤ t
-  pub lowest : (d : ℕ) → 1 ≤ d → d < s.core → t < get_or xs d 0
+-- The lowest of the cores 1 to n that is free at t, core c, is taken until e.
+pub record Takes (xs : List ℕ) (n t e c : ℕ) (s : Cores) : Type 0 where
+  pub core : (1 ≤ c) × (c ≤ n)
+  pub ends : s.ends ≡ set xs c e
+  pub free : get_or xs c 0 ≤ t
+  pub lowest : (d : ℕ) → 1 ≤ d → d < c → t < get_or xs d 0
   pub least : LeastOf s.ends (n + 1) s.least

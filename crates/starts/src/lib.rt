@@ -1,11 +1,10 @@
-// A carry from one start to the next: each start is one pass over the jobs and one over the cores, whatever the times.
+// A carry from one start to the next: each start is one pass over the jobs and two over the cores, whatever the times.
 #![tactic(auto)]
 
 mod choose;
 mod cores;
 
 ghost use Rattle.std.specs.Prelude.{◌≡◌, ℕ, ◌+◌, ◌<◌, length};
-ghost use Rattle.base.specs.Find.{seen_two};
 ghost use Rattle.model.specs.Carry.{starts, carried};
 ghost use Rattle.model.specs.Model.{Run, task_of};
 ghost use Rattle.model.specs.Rules.{Jobs};
@@ -13,15 +12,14 @@ ghost use Rattle.starts.specs.Choice.{Choice};
 ghost use Rattle.starts.specs.Opened.{Opened};
 ghost use Rattle.table.specs.Table.{Lent, Sized, columns, column_of};
 
-use base::{FoundTwo, later};
 use choose::choose;
 use cores::{free_cores, take_core};
 use table::{CORE, END, GREATEST, JOB, RANK, READY, RELEASE, START, column, put_row};
 
 // The job of a table that starts first from v on, and when.
-fn next_job(v: u32, t: &[u32], n: usize) -> FoundTwo
+fn next_job(v: u32, t: &[u32], n: usize) -> Option<(u32, u32)>
     requires { (σ : Run) × Jobs σ × Lent columns σ t.now n }
-    ensures { Choice n v (column_of n t.now 5) (column_of n t.now 1) (column_of n t.now 12) (column_of n t.now 11) (seen_two result) }
+    ensures { Choice n v (column_of n t.now 5) (column_of n t.now 1) (column_of n t.now 12) (column_of n t.now 11) result }
 {
     choose(
         v,
@@ -35,19 +33,14 @@ fn next_job(v: u32, t: &[u32], n: usize) -> FoundTwo
 // Job k starts: its start, end and core, and the instant at which the next job of its task is ready.
 fn put_start(t: &mut [u32], n: usize, k: usize, start: u32, end: u32, core: u32)
     requires { Sized t.old n × (k < n) }
-    ensures { (length t.new ≡ length t.old)
-        × ((σ : Run) → Jobs σ → Lent columns σ t.old n → end ≡ start + (task_of σ k).greatest → Lent columns (starts σ start k core) t.new n) }
+    ensures { (σ : Run) → Jobs σ → Lent columns σ t.old n → end ≡ start + (task_of σ k).greatest → Lent columns (starts σ start k core) t.new n }
 {
-    put_row(t, n, k, START, [start, end, core, 0, 0, 0, 0], 3);
+    put_row(t, n, k, START, &[start, end, core]);
     let next = k + 1;
-    if n <= next {
-        return;
+    if next < n && t[JOB * n + next] != 0 {
+        let ready = t[RELEASE * n + next].max(end);
+        put_row(t, n, next, READY, &[ready]);
     }
-    if t[JOB * n + next] == 0 {
-        return;
-    }
-    let ready = later(t[RELEASE * n + next], end);
-    put_row(t, n, next, READY, [ready, 0, 0, 0, 0, 0, 0], 1);
 }
 
 // All jobs that have not begun start, one after the other, from the horizon on: the table of the carry.
@@ -55,20 +48,13 @@ pub fn start_all(cores: u32, horizon: u32, t: &mut [u32], n: usize)
     requires { (ρ : Run) × (H' : ℕ) × Opened ρ H' cores horizon t.old n }
     ensures { (ρ : Run) (H' : ℕ) → Opened ρ H' cores horizon t.old n → Lent columns (carried ρ H') t.new n }
 {
-    let mut taken = free_cores(cores, column(t, n, END), column(t, n, CORE));
+    let mut free = free_cores(cores, column(t, n, END), column(t, n, CORE));
     let mut at = horizon;
-    let mut left = n;
-    while 0 < left {
-        match next_job(later(at, taken.least), t, n) {
-            FoundTwo::Nothing => return,
-            FoundTwo::At(u, job) => {
-                let k = job as usize;
-                let e = u + t[GREATEST * n + k];
-                taken = take_core(taken, cores, u, e);
-                put_start(t, n, k, u, e, taken.core);
-                at = u;
-            }
-        }
-        left -= 1;
+    while let Some((start, job)) = next_job(at.max(free.least), t, n) {
+        let k = job as usize;
+        let end = start + t[GREATEST * n + k];
+        let core = take_core(&mut free, cores, start, end);
+        put_start(t, n, k, start, end, core);
+        at = start;
     }
 }

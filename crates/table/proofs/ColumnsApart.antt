@@ -1,24 +1,19 @@
 -- Where a column stands, and where a row in it: each place of a table is that of one column and one row. Assumes nothing.
 use Prim.Native.Nat.{ℕ, zero, suc, ◌+◌, ◌*◌, ◌/◌, ◌%◌, ◌≤◌, ◌<◌}
-use mathlib.Core.Path.{◌≡◌, sym, ◌∙◌, ap}
-use native.Mathlib.Decide.{dec_lt}
-use native.Mathlib.Nat.{suc-mul, mul-zero, mul-le-mul_right, mod-lt, div-add-mod', div-lt_iff_lt-mul}
+use mathlib.Core.Path.{◌≡◌, sym}
+use native.Mathlib.Nat.{mul-zero, mod-lt, div-add-mod', div-lt_iff_lt-mul}
 use native.Mathlib.Omega.{arith}
+use Rattle.std.proofs.lemmas.Nat.{same_from_place, column_fits_turned}
 
 pub column_within : (m j n : ℕ) → j < m → j * n + n ≤ m * n
-column_within m j n h = let u : suc j ≤ m = omega arith in omega (arith, mul-le-mul_right n u, suc-mul j n)
+column_within m j n h = omega (arith, column_fits_turned n j m n h (omega arith))
 
 -- two places are the same only if their columns and their rows are
 pub same_column : (n j k i l : ℕ) → k < n → l < n → j * n + k ≡ i * n + l → j ≡ i
-same_column n j k i l h r e = go (dec_lt j i) (dec_lt i j)
-  where
-    go : Dec (j < i) → Dec (i < j) → j ≡ i
-    go (yes u) d = absurd (omega (arith, column_within i j n u))
-    go (no u) (yes d) = absurd (omega (arith, column_within j i n d))
-    go (no u) (no d) = omega (arith, u, d)
+same_column n j k i l h r e = (same_from_place j k i l n h r e).0
 
 pub same_row : (n j k i l : ℕ) → k < n → l < n → j * n + k ≡ i * n + l → k ≡ l
-same_row n j k i l h r e = let p : j * n + k ≡ j * n + l = e ∙ ap (λ c. c * n + l) (sym (same_column n j k i l h r e)) in omega arith
+same_row n j k i l h r e = (same_from_place j k i l n h r e).1
 
 -- the column and the row of a place
 pub record At (m n p : ℕ) : Type 0 where

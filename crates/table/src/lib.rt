@@ -1,7 +1,8 @@
 // A run as one lent table: where its columns stand, one of them as a part of it, and a row put into it.
 #![tactic(auto)]
 
-ghost use Rattle.std.specs.Prelude.{◌≡◌, ◌+◌, ◌*◌, ◌≤◌, ◌<◌, length, take};
+ghost use Rattle.std.specs.Prelude.{◌≡◌, ◌+◌, ◌*◌, ◌≤◌, ◌<◌, length};
+ghost use Rattle.model.specs.Model.{most_records};
 ghost use Rattle.table.specs.Table.{columns, Sized, column_of, PutRow, LiesAt};
 
 use model::Record;
@@ -16,7 +17,13 @@ pub const FEW: usize = 32;
 
 pub const MOST: usize = Record::MOST as usize;
 
+// How many numbers such tables have.
+pub const FEW_NUMBERS: usize = COLUMNS * FEW;
+
+pub const MOST_NUMBERS: usize = COLUMNS * MOST;
+
 // Which is which.
+// Kept: a column's number is a place that is counted with, as in `j * n + k`, here and in the definitions; an enum would be cast at each use.
 pub const TASK: usize = 0;
 
 pub const JOB: usize = 1;
@@ -43,6 +50,7 @@ pub const RANK: usize = 11;
 
 pub const READY: usize = 12;
 
+// Kept: a table goes as `t` and `n`. It is lent to be changed, and contracts speak of its numbers before and after (`Lent .. t.new n`); a struct around the reference would put a second layer between.
 // Column j of a table for n records, as the part of the table that it is.
 pub fn column<'a>(t: &'a [u32], n: usize, j: usize) -> &'a [u32]
     requires { Sized t.now n × (j < columns) }
@@ -52,14 +60,12 @@ pub fn column<'a>(t: &'a [u32], n: usize, j: usize) -> &'a [u32]
     &t[from..from + n]
 }
 
-// The first numbers of a list into row k, from column j on.
-pub fn put_row(t: &mut [u32], n: usize, k: usize, j: usize, numbers: [u32; 7], count: usize)
-    requires { Sized t.old n × (k < n) × (count ≤ 7) × (j + count ≤ columns) }
-    ensures { PutRow n k j (take count numbers) t.old t.new }
+// Numbers into row k, from column j on.
+pub fn put_row(t: &mut [u32], n: usize, k: usize, j: usize, numbers: &[u32])
+    requires { Sized t.old n × (k < n) × (j + length numbers.now ≤ columns) }
+    ensures { PutRow n k j numbers.now t.old t.new }
 {
-    let mut i = 0;
-    while i < count {
-        t[(j + i) * n + k] = numbers[i];
-        i += 1;
+    for (i, x) in numbers.iter().enumerate() {
+        t[(j + i) * n + k] = *x;
     }
 }

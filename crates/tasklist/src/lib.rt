@@ -1,15 +1,14 @@
 // Decoded tasks in a list that the caller lends, one entry a task.
 #![tactic(auto)]
 
-ghost use Rattle.std.specs.Prelude.{◌≡◌, List, ◌++◌, ◌-◌, length, replicate};
+ghost use Rattle.std.specs.Prelude.{◌≡◌, List, length, replicate};
 ghost use Rattle.model.specs.declared.task.Task.{Task as TaskValue};
-ghost use Rattle.model.specs.Model.{Run, most_tasks, no_task};
+ghost use Rattle.model.specs.Model.{most_tasks};
 ghost use Rattle.model.specs.File.{decoded};
-ghost use Rattle.openfile.specs.Head.{Tells};
-ghost use Rattle.tasklist.specs.Stored.{Rooms, HasTasks, Filled, Plans, Stores};
+ghost use Rattle.tasklist.specs.Stored.{Rooms, HasTasks, Filled, Plans, Stores, Decodes};
 
-use model::{TASKS, Task};
-use openfile::{Head, Opened, open_file};
+use model::{Refusal, TASKS, Task};
+use openfile::{OpenFile, open_file};
 use runfile::task_at;
 
 // The task of zeros.
@@ -21,45 +20,22 @@ const NO_TASK: Task = Task {
     jitter: 0,
 };
 
-// What a decoding answers: the refusal's number and task, or number 0; and how many tasks it stored.
-#[derive(Clone, Copy)]
-pub struct Stored {
-    pub number: u32,
-    pub task: u32,
-    pub count: usize,
-}
-
-// What is answered of a file that is whole and has n tasks.
-fn room_for(n: usize, room: usize) -> Stored
+// How many tasks of a file that is whole and has n are stored: all of them, or 11.
+fn room_for(n: usize, room: usize) -> Result<usize, Refusal>
     ensures { Rooms n room result }
 {
     if room < n {
-        return Stored {
-            number: 11,
-            task: 0,
-            count: 0,
-        };
+        return Err(Refusal::NoRoom);
     }
-    Stored {
-        number: 0,
-        task: 0,
-        count: n,
-    }
+    Ok(n)
 }
 
-// What is answered, and how many tasks are to be stored in a list with room for so many: none where the file is refused or the list
-// is too short.
-pub fn planned(file: &[u8], room: usize) -> Stored
+// How many tasks are to be stored in a list with room for so many: none where the file is refused or the list is too short.
+pub fn planned(file: &[u8], room: usize) -> Result<usize, Refusal>
     ensures { (list : List TaskValue) → length list ≡ room → Plans file.now list result }
 {
-    match open_file(file) {
-        Opened::Refused(number, task) => Stored {
-            number: number,
-            task: task,
-            count: 0,
-        },
-        Opened::Whole(head) => room_for(head.tasks as usize, room),
-    }
+    let head = open_file(file)?;
+    room_for(head.tasks as usize, room)
 }
 
 // The first n tasks of the file into the list; the entries past them keep their values.
@@ -67,21 +43,19 @@ fn fill_tasks(file: &[u8], list: &mut [Task], n: usize)
     requires { HasTasks file.now n (length list.old) }
     ensures { Filled file.now n list.old list.new }
 {
-    let mut i = 0;
-    while i < n {
+    for i in 0..n {
         list[i] = task_at(file, i);
-        i += 1;
     }
 }
 
 // The tasks of a file into the list: the file's own refusals first, then 11 for a list with fewer entries than the file has tasks.
 // A refusal changes no entry, and entries past the last task keep their values.
-pub fn decode_tasks(file: &[u8], list: &mut [Task]) -> Stored
+pub fn decode_tasks(file: &[u8], list: &mut [Task]) -> Result<usize, Refusal>
     ensures { Stores file.now list.old list.new result }
 {
-    let d = planned(file, list.len());
-    fill_tasks(file, list, d.count);
-    d
+    let n = planned(file, list.len())?;
+    fill_tasks(file, list, n);
+    Ok(n)
 }
 
 // The first n tasks of a file over the front of a list that is given by value, and lent for it.
@@ -94,12 +68,11 @@ fn filled(file: &[u8], n: usize, list: [Task; TASKS]) -> [Task; TASKS]
     own
 }
 
-// The tasks of a file that is whole, in a list with tasks of zeros after them.
-pub fn tasks_of(file: &[u8], head: Head) -> [Task; TASKS]
-    requires { (ρ : Run) × Tells file.now head ρ }
-    ensures { (ρ : Run) → Tells file.now head ρ → result ≡ ρ.tasks ++ replicate (most_tasks - length ρ.tasks) no_task }
+// The tasks of a file that tells a run, in a list with tasks of zeros after them.
+pub fn tasks_of(o: OpenFile) -> [Task; TASKS]
+    ensures { Decodes o.entry.file.now result }
 {
-    filled(file, head.tasks as usize, [NO_TASK; TASKS])
+    filled(o.file, o.head.tasks as usize, [NO_TASK; TASKS])
 }
 
 // The tasks of a file as a value, decoded into a list that is filled with one task: that task after the file's, and nothing else if the
@@ -107,6 +80,6 @@ pub fn tasks_of(file: &[u8], head: Head) -> [Task; TASKS]
 pub fn tasks_over(file: &[u8], fill: Task) -> [Task; TASKS]
     ensures { result ≡ (decoded file.now (replicate most_tasks fill)).list }
 {
-    let d = planned(file, TASKS);
-    filled(file, d.count, [fill; TASKS])
+    let n = planned(file, TASKS).unwrap_or(0);
+    filled(file, n, [fill; TASKS])
 }

@@ -5,8 +5,9 @@ use mathlib.Core.List.{List, [], ◌∷◌, ◌++◌, append_assoc, append-nil}
 use native.Mathlib.Nat.{add-zero}
 use native.Mathlib.Numerals.{add-one}
 use native.Mathlib.Omega.{arith}
-use lib.ListN.{length, get_or, set, take, drop, length-append, length-set, take-append-drop}
-use lib.Seq.{set_split, take-suc, take_at, drop-append-add, drop-drop, length-take-le}
+use lib.ListN.{length, set, take, drop, length-append, length-set, length-drop, take-append-drop}
+use lib.Seq.{set_split, take_at, drop-append-add, drop-drop, length-take-le}
+use borrow.Rule.Slice.PartMut.{put_mid}
 use Rattle.model.specs.Report.{decimal, line}
 use Rattle.decimal.proofs.Decimal.{length-decimal}
 use Rattle.text.specs.Paste.{pasted, Wrote}
@@ -36,16 +37,19 @@ wrote_more {s} {t} {u} {xs} {ys} {i} {j} {k} w v h = record {
   long = v.long ∙ w.long;
 }
 
--- nothing yet, and one byte more of those that are written one by one
+-- nothing yet
 pub wrote_none : (s : List ℕ) {i j : ℕ} → j ≡ i → Wrote s i [] s j
 unfolding pasted
 wrote_none s {i} e = record { place = omega arith; text = rw (append-nil, add-zero) (sym (take-append-drop i s)); long = refl }
 
-pub wrote_on : {s t : List ℕ} {i k : ℕ} (bs : List ℕ) → k < length bs → i + length bs ≤ length s → Wrote s i (take k bs) t (i + k) → Wrote s i (take (k + 1) bs) (set t (i + k) (get_or bs k 0)) (i + (k + 1))
-wrote_on {s} {t} {i} {k} bs h l w =
-    let e : take (k + 1) bs ≡ take k bs ++ (get_or bs k 0 ∷ []) = rw add-one (take-suc bs k 0 h) in
-    let p : i + (k + 1) ≡ i + k + 1 = omega arith in
-    rw (e, p) (wrote_more w (wrote_byte t (i + k) (get_or bs k 0) (omega arith)) (omega arith))
+-- several bytes, as a part of a slice is copied into
+pub wrote_bytes : (s : List ℕ) (i k : ℕ) (bs : List ℕ) → k ≡ length bs → i + length bs ≤ length s → Wrote s i bs (put_mid i k s bs) (i + length bs)
+unfolding pasted
+wrote_bytes s i k bs e h = record {
+  place = refl;
+  text = rw (e, drop-drop (length bs) i s, append_assoc (take i s) bs (drop (i + length bs) s));
+  long = simp (length-append, length-drop) (omega (arith, length-take-le i s (omega arith)));
+}
 
 -- a number and a byte after it are at most eleven bytes
 pub wrote_few : {s t : List ℕ} {i j : ℕ} (v b : ℕ) → Wrote s i (decimal v ++ (b ∷ [])) t j → j ≤ i + 11

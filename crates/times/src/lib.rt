@@ -7,11 +7,11 @@ ghost use Rattle.model.specs.Rules.{Jobs};
 ghost use Rattle.table.specs.Table.{Sized, Lent, Rows, Loads, recorded};
 ghost use Rattle.times.specs.Times.{begins, up_to, KeptFrom, Listed};
 
-use base::later;
 use model::{TASKS, Task};
 use table::{DUE, EARLIEST, END, JOB, LEAST, RELEASE, put_row};
 
 // What is filled in at once: until when a record may be released, how long it may last, what its order goes by.
+// Kept: the contracts above name a stage as a value, `up_to Stage.Release`; three types of a trait would be `⟦<Release as Stage>⟧.up_to` there, and an `impl` each for an arm.
 #[derive(Clone, Copy)]
 pub enum Stage {
     Release,
@@ -26,9 +26,10 @@ fn ready_at(t: &[u32], n: usize, k: usize) -> u32
 {
     let release = t[RELEASE * n + k];
     if t[JOB * n + k] == 0 {
-        return release;
+        release
+    } else {
+        release.max(t[END * n + k - 1])
     }
-    later(release, t[END * n + k - 1])
 }
 
 // The times of record k, whose task this is, that a stage fills in.
@@ -42,20 +43,13 @@ fn put_times(stage: Stage, task: Task, t: &mut [u32], n: usize, k: usize)
         Stage::Release => {
             let earliest = task.arrival(job) as u32;
             let latest = earliest + task.jitter;
-            put_row(t, n, k, EARLIEST, [earliest, latest, 0, 0, 0, 0, 0], 2);
+            put_row(t, n, k, EARLIEST, &[earliest, latest]);
         }
-        Stage::Length => put_row(
-            t,
-            n,
-            k,
-            LEAST,
-            [task.least, task.greatest, 0, 0, 0, 0, 0],
-            2,
-        ),
+        Stage::Length => put_row(t, n, k, LEAST, &[task.least, task.greatest]),
         Stage::Order => {
             let due = task.deadline(job) as u32;
             let ready = ready_at(t, n, k);
-            put_row(t, n, k, DUE, [due, due, ready, 0, 0, 0, 0], 3);
+            put_row(t, n, k, DUE, &[due, due, ready]);
         }
     }
 }
@@ -65,10 +59,8 @@ fn times_from(stage: Stage, tasks: &[Task], t: &mut [u32], n: usize)
     requires { (σ : Run) × Listed σ tasks.now (begins stage) t.old n }
     ensures { (σ : Run) → Listed σ tasks.now (begins stage) t.old n → Loads (up_to stage) σ n t.old t.new }
 {
-    let mut k = 0;
-    while k < n {
+    for k in 0..n {
         put_times(stage, tasks[t[k] as usize], t, n, k);
-        k += 1;
     }
 }
 

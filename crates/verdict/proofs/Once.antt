@@ -1,12 +1,15 @@
--- Two results that a contract permits are the same: of the functions of this crate, whose file tells a run. Assumes nothing.
-use mathlib.Core.Path.{sym, ◌∙◌}
-use Rattle.base.proofs.Once.{Once}
+-- Two results that a contract permits are the same: of the functions of this crate, whose contracts are the relations `Judges` and
+-- `Accepts`: a function over a struct that holds a reference has no module `Reads`. Assumes nothing.
+use Prim.Native.Nat.{ℕ}
+use mathlib.Core.Path.{◌≡◌, sym, ◌∙◌}
+use mathlib.Core.Bool.{Bool}
+use mathlib.Core.List.{List}
+use Rattle.model.specs.declared.answer.Answer.{Answer}
 use Rattle.model.proofs.Once.{five_once}
-use Rattle.verdict.proofs.run.judge_run.Reads as judge_run
-use Rattle.verdict.proofs.accepts.accepts_run.Reads as accepts_run
+use Rattle.verdict.specs.Judging.{Judges, Accepts}
 
-pub judge_run_once : Once judge_run.Pre judge_run.Post (λ r exit. r)
-judge_run_once κs args (ρ, T, L) r r' exit exit' p q = five_once r r' _ (p ρ T L) (q ρ T L)
+pub judge_run_once : (file : List ℕ) (a a' : Answer) → Judges file a → Judges file a' → a ≡ a'
+judge_run_once file a a' = five_once a a' _
 
-pub accepts_run_once : Once accepts_run.Pre accepts_run.Post (λ r exit. r)
-accepts_run_once κs args (ρ, T, L) r r' exit exit' p q = p ρ T L ∙ sym (q ρ T L)
+pub accepts_run_once : (file : List ℕ) (t t' : Bool) → Accepts file t → Accepts file t' → t ≡ t'
+accepts_run_once file t t' p q = p ∙ sym q

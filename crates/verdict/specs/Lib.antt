@@ -1,2 +1,3 @@
 pub mod RulesFrom
 pub mod Late
+pub mod Judging

@@ -3,27 +3,16 @@ ghost use Rattle.std.specs.Prelude.{◌≡◌, List, [], ◌∷◌, ℕ, ◌+◌
 ghost use Rattle.base.specs.Columns.{Columns};
 ghost use Rattle.model.specs.Answers.{five_of};
 ghost use Rattle.model.specs.Model.{most_records};
-ghost use Rattle.verdict.specs.Late.{LateOf, or_this, timely_in};
+ghost use Rattle.verdict.specs.Late.{LateOf, timely_in};
 
-use base::Found;
 use model::Answer;
 
 // How many are late, the first of them, and the first of them that begins before the horizon.
 #[derive(Clone, Copy)]
 pub struct Late {
     pub count: u32,
-    pub first: Found,
-    pub early: Found,
-}
-
-// What was found before, or this.
-fn or_this(found: Found, k: u32) -> Found
-    ensures { result ≡ or_this found k }
-{
-    match found {
-        Found::At(j) => found,
-        Found::Nothing => Found::At(k),
-    }
+    pub first: Option<u32>,
+    pub early: Option<u32>,
 }
 
 // The late ones of the first k records, and now of one more: late means that it ends after its deadline.
@@ -35,15 +24,14 @@ fn late_with(late: Late, horizon: u32, k: u32, due: u32, start: u32, end: u32) -
     if end <= due {
         return late;
     }
-    let first = late.first;
     let mut early = late.early;
     if start < horizon {
-        early = or_this(early, k);
+        early = early.or(Some(k));
     }
     Late {
         count: late.count + 1,
-        first: or_this(first, k),
-        early: early,
+        first: late.first.or(Some(k)),
+        early,
     }
 }
 
@@ -53,13 +41,11 @@ fn late_records(horizon: u32, due: &[u32], start: &[u32], end: &[u32]) -> Late
 {
     let mut late = Late {
         count: 0,
-        first: Found::Nothing,
-        early: Found::Nothing,
+        first: None,
+        early: None,
     };
-    let mut k = 0;
-    while k < end.len() {
+    for k in 0..end.len() {
         late = late_with(late, horizon, k as u32, due[k], start[k], end[k]);
-        k += 1;
     }
     late
 }
@@ -70,13 +56,9 @@ pub(crate) fn timely(horizon: u32, due: &[u32], start: &[u32], end: &[u32]) -> A
     ensures { five_of result ≡ timely_in horizon due.now start.now end.now }
 {
     let late = late_records(horizon, due, start, end);
-    let early = late.early;
-    let first = late.first;
-    if let Found::At(k) = early {
-        return Answer::LateBeforeH(late.count, k);
+    match (late.early, late.first) {
+        (Some(k), _) => Answer::LateBeforeH(late.count, k),
+        (None, Some(k)) => Answer::LateFromH(late.count, k),
+        (None, None) => Answer::InTime,
     }
-    if let Found::At(k) = first {
-        return Answer::LateFromH(late.count, k);
-    }
-    Answer::InTime
 }

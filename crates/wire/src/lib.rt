@@ -10,6 +10,7 @@ use model::Answer;
 
 // Writes a number at a place: four bytes, low byte first, with the shifts and masks of octalmure_put_number in include/octalmure.h.
 // Every other byte keeps its value.
+// Kept: these lines stand beside the header's, shift by shift, as was promised to who reviews a host (docs/FORMAT.md).
 pub fn put_u32(s: &mut [u8], at: usize, v: u32)
     requires { at + 4 ≤ length s.old }
     ensures { s.new ≡ put s.old at v }
@@ -21,68 +22,24 @@ pub fn put_u32(s: &mut [u8], at: usize, v: u32)
 }
 
 // The five numbers of an answer.
-#[derive(Clone, Copy)]
-pub struct Numbers {
-    pub answer: u32,
-    pub code: u32,
-    pub x: u32,
-    pub y: u32,
-    pub z: u32,
-}
-
-pub fn numbers_of(a: Answer) -> Numbers
-    ensures { result.answer ∷ result.code ∷ result.x ∷ result.y ∷ result.z ∷ [] ≡ numbers (five_of a) }
+#[tactic(auto, unfolding(model::specs::Calls::numbers))]
+pub fn numbers_of(a: Answer) -> [u32; 5]
+    ensures { result ≡ numbers (five_of a) }
 {
     match a {
-        Answer::InTime => Numbers {
-            answer: 0,
-            code: 0,
-            x: 0,
-            y: 0,
-            z: 0,
-        },
-        Answer::LateBeforeH(late, record) => Numbers {
-            answer: 1,
-            code: late,
-            x: record,
-            y: 0,
-            z: 0,
-        },
-        Answer::LateFromH(late, record) => Numbers {
-            answer: 2,
-            code: late,
-            x: record,
-            y: 0,
-            z: 0,
-        },
-        Answer::RuleBroken(rule, x, y, z) => Numbers {
-            answer: 3,
-            code: rule,
-            x: x,
-            y: y,
-            z: z,
-        },
-        Answer::Refused(number, task) => Numbers {
-            answer: 4,
-            code: number,
-            x: task,
-            y: 0,
-            z: 0,
-        },
-        Answer::Written(bytes) => Numbers {
-            answer: 5,
-            code: bytes,
-            x: 0,
-            y: 0,
-            z: 0,
-        },
-        Answer::Chain(count) => Numbers {
-            answer: 6,
-            code: count,
-            x: 0,
-            y: 0,
-            z: 0,
-        },
+        Answer::InTime => [0, 0, 0, 0, 0],
+        Answer::LateBeforeH(late, record) => [1, late, record, 0, 0],
+        Answer::LateFromH(late, record) => [2, late, record, 0, 0],
+        Answer::RuleBroken(broken) => {
+            let [rule, x, y, z] = broken.numbers();
+            [3, rule, x, y, z]
+        }
+        Answer::Refused(refusal) => {
+            let (number, named) = refusal.numbers();
+            [4, number, named, 0, 0]
+        }
+        Answer::Written(bytes) => [5, bytes, 0, 0, 0],
+        Answer::Chain(count) => [6, count, 0, 0, 0],
     }
 }
 
@@ -94,11 +51,11 @@ pub fn write_answer(a: Answer, answer: &mut [u8]) -> u32
     requires { answer_size ≤ length answer.old }
     ensures { (result ≡ (five_of a).answer) × (answer.new ≡ written (five_of a) answer.old) }
 {
-    let n = numbers_of(a);
-    put_u32(answer, 0, n.answer);
-    put_u32(answer, 4, n.code);
-    put_u32(answer, 8, n.x);
-    put_u32(answer, 12, n.y);
-    put_u32(answer, 16, n.z);
-    n.answer
+    let [kind, code, x, y, z] = numbers_of(a);
+    put_u32(answer, 0, kind);
+    put_u32(answer, 4, code);
+    put_u32(answer, 8, x);
+    put_u32(answer, 12, y);
+    put_u32(answer, 16, z);
+    kind
 }

@@ -1,17 +1,18 @@
 -- Numbers put one after the other are put together; rows, one after the other, are a file's sections. Assumes nothing.
 use Prim.Native.Nat.{ℕ, zero, suc, ◌+◌, ◌*◌, ◌≤◌, ◌<◌}
-use mathlib.Core.Path.{◌≡◌, refl, ◌∙◌, ap}
+use mathlib.Core.Path.{◌≡◌, refl, sym, ◌∙◌, ap}
 use mathlib.Core.List.{List, [], ◌∷◌, ◌++◌, append_assoc, append-nil}
 use native.Mathlib.Numerals.{add-one}
 use native.Mathlib.Omega.{arith}
 use lib.ListN.{length, get_or, take, length-append}
 use lib.Seq.{take-suc, take-length}
 use Rattle.model.specs.declared.task.Task.{Task}
-use Rattle.model.specs.Model.{Run, most_tasks, task, rec, no_task, no_record}
+use Rattle.model.specs.Model.{Run, task, rec, no_task, no_record}
 use Rattle.model.specs.File.{bytes, bytes_of, joined, setting_numbers, task_numbers, record_numbers}
 use Rattle.model.specs.Calls.{front}
 use Rattle.model.proofs.Joined.{joined_append}
 use Rattle.openfile.specs.declared.head.Head.{Head}
+use Rattle.openfile.proofs.Leading.{leads_take}
 use Rattle.table.specs.Table.{recorded, number_at}
 use Rattle.wire.specs.Put.{put}
 use Rattle.wire.proofs.Put.{put_next}
@@ -78,12 +79,19 @@ module _ {A : Type 0} (f : A → List ℕ) (d : A) (row : ℕ → List ℕ) (xs 
 -- The file of a run.
 -- ------------------
 module _ {h : Head} {H : ℕ} {l : List Task} {t : List ℕ} {m : ℕ} {σ : Run} (T : Tabled h H l t m σ) where
-  pub few_tasks : h.tasks ≤ most_tasks
-  few_tasks = omega (arith, T.task_total, T.table.limits.task_total.1)
+  -- the first entries of the list
+  abbrev listed : List Task
+  listed = take h.tasks l
 
-  task_is : (k : ℕ) → k < length σ.tasks → task_row l k ≡ task_numbers (task σ.tasks k)
+  listed_is : listed ≡ σ.tasks
+  listed_is = sym (leads_take T.tasks T.task_total)
+
+  pub listed_long : length listed ≡ h.tasks
+  listed_long = ap length listed_is ∙ sym T.task_total
+
+  task_is : (k : ℕ) → k < length listed → task_row listed k ≡ task_numbers (task listed k)
   unfolding task_row
-  task_is k i = ap task_numbers (T.tasks.each k i)
+  task_is k i = refl
 
   record_is : (k : ℕ) → k < length σ.records → record_row t m k ≡ record_numbers (rec σ k)
   unfolding record_row
@@ -93,12 +101,12 @@ module _ {h : Head} {H : ℕ} {l : List Task} {t : List ℕ} {m : ℕ} {σ : Run
       rw (at 0 (omega arith), at 1 (omega arith), at 2 (omega arith), at 3 (omega arith), at 4 (omega arith), at 5 (omega arith))
 
   abbrev written : List ℕ
-  written = (2 ∷ h.setting.cores ∷ H ∷ h.tasks ∷ []) ++ rows (task_row l) h.tasks ++ (m ∷ []) ++ rows (record_row t m) m
+  written = (2 ∷ h.setting.cores ∷ H ∷ h.tasks ∷ []) ++ rows (task_row listed) (length listed) ++ (m ∷ []) ++ rows (record_row t m) m
 
   bytes_are : bytes_of written ≡ bytes σ
   unfolding bytes
   bytes_are =
-      let tasks = rows_joined task_numbers no_task (task_row l) σ.tasks task_is h.tasks T.task_total in
+      let tasks = rows_joined task_numbers no_task (task_row listed) listed task_is (length listed) refl ∙ ap (joined task_numbers) listed_is in
       let records = rows_joined record_numbers no_record (record_row t m) σ.records record_is m T.table.count in
       let after : List ℕ = length σ.records ∷ joined record_numbers σ.records in
       let e : written ≡ 2 ∷ setting_numbers σ.setting ++ (length σ.tasks ∷ joined task_numbers σ.tasks) ++ after =
@@ -107,7 +115,7 @@ module _ {h : Head} {H : ℕ} {l : List Task} {t : List ℕ} {m : ℕ} {σ : Run
 
   -- the head, the tasks, the record count and the records, one after the other
   pub wrote_run : {s u v w x : List ℕ} {i j j' k o : ℕ} → Wrote s 0 (2 ∷ h.setting.cores ∷ H ∷ h.tasks ∷ []) u i
-      → Wrote u i (rows (task_row l) h.tasks) v j → j' ≡ j → Wrote v j' (m ∷ []) w k → Wrote w k (rows (record_row t m) m) x o
+      → Wrote u i (rows (task_row listed) (length listed)) v j → j' ≡ j → Wrote v j' (m ∷ []) w k → Wrote w k (rows (record_row t m) m) x o
       → x ≡ front (bytes σ) s
   wrote_run {s} p q e r o =
       (wrote_more (wrote_more (wrote_more p q) (rw e at r)) o).slice ∙ puts_front written [] s 0 refl ∙ ap (λ bs. front bs s) bytes_are

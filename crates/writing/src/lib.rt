@@ -1,29 +1,27 @@
 // A run as a run file: the tasks of a list, and the records of a table, written to the front of an output.
 #![tactic(auto)]
 
-ghost use Rattle.std.specs.Prelude.{◌≡◌, [], ◌∷◌, ◌+◌, ◌*◌, ◌≤◌, ◌<◌, length, take};
+ghost use Rattle.std.specs.Prelude.{◌≡◌, [], ◌∷◌, ◌+◌, ◌*◌, ◌≤◌, ◌<◌, length};
 ghost use Rattle.model.specs.Calls.{front};
-ghost use Rattle.model.specs.File.{bytes, task_numbers, record_numbers, tasks_place, records_place, task_size, record_size, size_of, longest_file};
-ghost use Rattle.model.specs.Model.{Run, most_tasks};
+ghost use Rattle.model.specs.File.{bytes, task_numbers, record_numbers, tasks_place, records_place, task_size, record_size, size_of};
+ghost use Rattle.model.specs.Model.{Run};
 ghost use Rattle.table.specs.Table.{Sized};
 ghost use Rattle.writing.specs.WrittenRows.{Wrote, rows, record_in, task_row, record_row};
 ghost use Rattle.writing.specs.RunOfTable.{Tabled};
 
 use model::{Record, TASKS, Task};
 use openfile::Head;
-use runfile::{RECORD_SIZE, records_place};
+use runfile::{RECORD_SIZE, TASK_SIZE, TASKS_PLACE, records_place};
 use table::{CORE, END, JOB, RELEASE, START, TASK};
 use wire::put_u32;
 
-// Writes the first numbers of a list, one after the other, from a place on.
-fn write_numbers(numbers: [u32; 6], count: usize, at: usize, output: &mut [u8])
-    requires { (count ≤ 6) × (at + 4 * count ≤ length output.old) }
-    ensures { Wrote output.old at (take count numbers) output.new (at + 4 * count) }
+// Writes numbers, one after the other, from a place on.
+fn write_numbers(numbers: &[u32], at: usize, output: &mut [u8])
+    requires { at + 4 * length numbers.now ≤ length output.old }
+    ensures { Wrote output.old at numbers.now output.new (at + 4 * length numbers.now) }
 {
-    let mut i = 0;
-    while i < count {
-        put_u32(output, at + 4 * i, numbers[i]);
-        i += 1;
+    for (i, v) in numbers.iter().enumerate() {
+        put_u32(output, at + 4 * i, *v);
     }
 }
 
@@ -32,7 +30,7 @@ fn write_head(cores: u32, horizon: u32, n: u32, output: &mut [u8])
     requires { tasks_place + 4 ≤ length output.old }
     ensures { Wrote output.old 0 (2 ∷ cores ∷ horizon ∷ n ∷ []) output.new (tasks_place + 4) }
 {
-    write_numbers([2, cores, horizon, n, 0, 0], 4, 0, output);
+    write_numbers(&[2, cores, horizon, n], 0, output);
 }
 
 // Writes a task at a place.
@@ -41,22 +39,20 @@ fn write_task(t: Task, at: usize, output: &mut [u8])
     ensures { Wrote output.old at (task_numbers t) output.new (at + task_size) }
 {
     write_numbers(
-        [t.period, t.least, t.greatest, t.offset, t.jitter, 0],
-        5,
+        &[t.period, t.least, t.greatest, t.offset, t.jitter],
         at,
         output,
     );
 }
 
-// Writes the first n tasks of a list after the head.
-fn write_tasks(tasks: [Task; TASKS], n: u32, output: &mut [u8])
-    requires { (n ≤ most_tasks) × (records_place n ≤ length output.old) }
-    ensures { Wrote output.old (tasks_place + 4) (rows (task_row tasks) n) output.new (records_place n) }
+// Writes tasks after the head.
+fn write_tasks(tasks: &[Task], output: &mut [u8])
+    requires { records_place (length tasks.now) ≤ length output.old }
+    ensures { Wrote output.old (tasks_place + 4) (rows (task_row tasks.now) (length tasks.now)) output.new
+        (records_place (length tasks.now)) }
 {
-    let mut i = 0;
-    while i < n {
-        write_task(tasks[i as usize], records_place(i), output);
-        i += 1;
+    for (i, t) in tasks.iter().enumerate() {
+        write_task(*t, TASKS_PLACE + 4 + TASK_SIZE * i, output);
     }
 }
 
@@ -66,8 +62,7 @@ fn write_record(x: Record, at: usize, output: &mut [u8])
     ensures { Wrote output.old at (record_numbers x) output.new (at + record_size) }
 {
     write_numbers(
-        [x.task, x.job, x.release, x.start, x.end, x.core],
-        6,
+        &[x.task, x.job, x.release, x.start, x.end, x.core],
         at,
         output,
     );
@@ -90,13 +85,11 @@ fn record_in(t: &[u32], n: usize, k: usize) -> Record
 
 // Writes the records of a table from a place on.
 fn write_records(t: &[u32], n: usize, at: usize, output: &mut [u8])
-    requires { Sized t.now n × (at ≤ longest_file) × (at + record_size * n ≤ length output.old) }
+    requires { Sized t.now n × (at + record_size * n ≤ length output.old) }
     ensures { Wrote output.old at (rows (record_row t.now n) n) output.new (at + record_size * n) }
 {
-    let mut k = 0;
-    while k < n {
+    for k in 0..n {
         write_record(record_in(t, n, k), at + RECORD_SIZE * k, output);
-        k += 1;
     }
 }
 
@@ -117,7 +110,7 @@ pub fn write_run(
     let count = head.tasks;
     let at = records_place(count);
     write_head(setting.cores, horizon, count, output);
-    write_tasks(tasks, count, output);
+    write_tasks(&tasks[..count as usize], output);
     put_u32(output, at, n as u32);
     write_records(t, n, at + 4, output);
 }

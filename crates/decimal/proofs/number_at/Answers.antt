@@ -1,39 +1,31 @@
 -- From the place on the text has the digits of the number so far, up to the byte that is looked at. Assumes nothing.
 use mathlib.Core.Path.{refl}
-use mathlib.Core.Logic.{inl, inr}
 use native.Mathlib.Omega.{arith}
-use Rattle.decimal.proofs.DigitByDigit.{has_first, has_more, has_number, bad_front, bad_byte, bad_digit, bad_end}
+use Rattle.decimal.proofs.DigitByDigit.{has_first, has_more, bad_front, bad_more, bad_end}
 use Rattle.decimal.proofs.number_at.Goals as goal
 
-pub returns-then-s-at : goal.returns-then-s-at
-returns-then-s-at c w rest = let a = c.args in bad_front a.s.now a.at (λ h. omega arith)
+pub returns-in_err-get : goal.returns-in_err-get
+returns-in_err-get c = let a = c.args in bad_front a.s.now a.at a.stop c.from_residual.ensures (λ h. grind arith)
 
-pub returns-then-first-lt48 : goal.returns-then-first-lt48
-returns-then-first-lt48 c w rest = let a = c.args in bad_front a.s.now a.at (λ h. omega arith)
-
-pub returns-then-first-gt57 : goal.returns-then-first-gt57
-returns-then-first-gt57 c w rest = let a = c.args in bad_front a.s.now a.at (λ h. omega arith)
+pub returns-in_err-v : goal.returns-in_err-v
+returns-in_err-v c = let a = c.args in bad_front a.s.now a.at a.stop c.from_residual-in_err-v.ensures (λ h. grind arith)
 
 pub loop-i-init : goal.loop-i-init
-loop-i-init c = has_first _ _ (omega arith) (omega arith) (omega arith)
-
-pub returns-then-b-stop : goal.returns-then-b-stop
-returns-then-b-stop c = has_number _ _ (omega arith) c.loop-i.invariant c.if-b-stop.true
-
-pub returns-then-b-lt48 : goal.returns-then-b-lt48
-returns-then-b-lt48 c w rest = bad_byte _ _ (omega arith) c.loop-i.invariant (omega arith) c.if-b-stop.false (λ h. omega arith)
-
-pub returns-then-b-gt57 : goal.returns-then-b-gt57
-returns-then-b-gt57 c w rest = bad_byte _ _ (omega arith) c.loop-i.invariant (omega arith) c.if-b-stop.false (λ h. omega arith)
+loop-i-init c = has_first _ _ (grind arith) (grind arith) (grind arith) (grind arith)
 
 pub returns-then-v-eq0 : goal.returns-then-v-eq0
-returns-then-v-eq0 c w rest = bad_digit _ _ (omega arith) c.loop-i.invariant (omega arith) c.if-b-stop.false (inl (omega arith))
+returns-then-v-eq0 c = bad_more _ _ (omega arith) c.loop-i.invariant _ refl c.requires c.if-b-stop.false (λ h. omega (arith, h.0, c.if-v-eq0.true))
 
-pub returns-then-w-gt4294967295 : goal.returns-then-w-gt4294967295
-returns-then-w-gt4294967295 c w rest = bad_digit _ _ (omega arith) c.loop-i.invariant (omega arith) c.if-b-stop.false (inr (omega arith))
+pub returns-in_err-digit : goal.returns-in_err-digit
+returns-in_err-digit c =
+    bad_more _ _ (omega arith) c.loop-i.invariant _ c.from_residual-in_err-digit.ensures c.requires c.if-b-stop.false (λ h. c.in_err-digit.ensures (h.1, h.2))
+
+pub returns-then-from-w : goal.returns-then-from-w
+returns-then-from-w c =
+    bad_more _ _ (omega arith) c.loop-i.invariant _ refl c.requires c.if-b-stop.false (λ h. grind (arith, h.3))
 
 pub loop-i-preserved : goal.loop-i-preserved
-loop-i-preserved c = has_more _ _ (omega arith) c.loop-i.invariant (λ e. omega arith) (omega arith) (omega arith) refl (omega arith)
+loop-i-preserved c = has_more _ _ (omega arith) c.loop-i.invariant ((grind arith, grind arith, grind arith, grind arith), grind arith)
 
 pub returns : goal.returns
 returns c w rest = bad_end c.loop-i.invariant (omega arith) (omega arith)

@@ -1,11 +1,6 @@
 -- From the place on the text has the digits of the number so far, up to the byte that is looked at. Assumes nothing.
-use Prim.Native.Nat.{◌-◌}
-use lib.ListN.{length}
 use Rattle.decimal.proofs.DigitByDigit.{Has}
 use Rattle.decimal.proofs.number_at.Given as goal
 
 abbrev pub invariant-loop-i : goal.invariant-loop-i
 invariant-loop-i l = Has l.s l.at l.i l.v
-
-abbrev pub decreases-loop-i : goal.decreases-loop-i
-decreases-loop-i l = length l.s - l.i

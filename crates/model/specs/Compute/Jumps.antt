@@ -1,6 +1,5 @@
 -- The carry from start to start, with no instant in between: `carry_by_starts` gives what `carried` gives (proofs/Jumps.antt).
-use Rattle.std.specs.Prelude.{ℕ, zero, suc}
-use Rattle.std.proofs.Math.Option.{Option, none, some}
+use Rattle.std.specs.Prelude.{ℕ, zero, suc, None, Option, Some}
 use Rattle.base.specs.Find.{first_of, count}
 use Rattle.model.specs.Model.{Run}
 use Rattle.model.specs.Carry.{not_begun, next, starts, both, instants_from, opening}
@@ -22,7 +21,7 @@ module _ (σ : Run) where
 -- From instant t on, m starts, one after the other.
 unfoldable pub start_all : ℕ → ℕ → Run → Run
 start_all zero t σ = σ
-start_all (suc m) t σ = elim (next_start σ t) [ none ↦ σ | some p ↦ start_all m p.0 (starts σ p.0 p.1.0 p.1.1) ]
+start_all (suc m) t σ = elim (next_start σ t) [ None ↦ σ | Some p ↦ start_all m p.0 (starts σ p.0 p.1.0 p.1.1) ]
 
 unfoldable pub carry_by_starts : Run → ℕ → Run
 carry_by_starts ρ H' = start_all (waiting (opening ρ H')) ρ.setting.horizon (opening ρ H')

@@ -1,6 +1,5 @@
 -- Tests of the ranges: `setting_in_range` says `SettingInRange`, `task_in_range` says `TaskInRange` (proofs/Limits.antt).
-use Rattle.std.specs.Prelude.{ℕ, Bool, not, ◌&&◌, List, leb, ltb, length}
-use Rattle.std.proofs.Math.Option.{Option}
+use Rattle.std.specs.Prelude.{ℕ, Bool, not, ◌&&◌, List, leb, ltb, length, Option}
 use Rattle.base.specs.Find.{first}
 use Rattle.model.specs.declared.setting.Setting.{Setting}
 use Rattle.model.specs.declared.task.Task.{Task}

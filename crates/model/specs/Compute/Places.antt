@@ -1,7 +1,6 @@
 -- The first place of each rule, computed: `find ν` finds the `FirstPlace ν`, or nothing where the rule holds (proofs/Places.antt).
-use Rattle.std.specs.Prelude.{ℕ, suc, ◌+◌, ◌-◌, max, Bool, true, false, not, ◌&&◌, ◌||◌, leb, ltb, eqb, length}
-use Rattle.std.proofs.Math.Option.{Option, none, some, map}
-use Rattle.std.proofs.Math.ListN.{get_elem?}
+use Rattle.std.specs.Prelude.{ℕ, suc, ◌+◌, ◌-◌, max, Bool, true, false, not, ◌&&◌, ◌||◌, leb, ltb, eqb, length, None, Option, Some, option_map, slice_get}
+use Rattle.std.proofs.Math.ListN.{}
 use Rattle.base.specs.Find.{first, first_of, found}
 use Rattle.model.specs.Model.{Run, Job, rec, task_of, same_job, arrival, existing, rank, end_before, ready}
 use Rattle.model.specs.Rules.{Rule, rule1, rule2, rule3, rule4, rule5, rule6, rule7, rule8, rule9, Place, jobs_recorded, in_order, rule}
@@ -18,17 +17,17 @@ three p = record { x = p.0; y = p.1.0; z = p.1.1 }
 
 -- both lists have ended, or both go on with the same job
 abbrev pub same_entry : Option Job → Option Job → Bool
-same_entry none none = true
-same_entry none (some q) = false
-same_entry (some p) none = false
-same_entry (some p) (some q) = same_job p q
+same_entry None None = true
+same_entry None (Some q) = false
+same_entry (Some p) None = false
+same_entry (Some p) (Some q) = same_job p q
 
 module _ (ρ : Run) where
   abbrev pub size : ℕ
   size = length ρ.records
 
   abbrev pub differ : ℕ → Bool
-  differ k = not (same_entry (get_elem? (jobs_recorded ρ) k) (get_elem? (existing ρ ρ.setting.horizon) k))
+  differ k = not (same_entry (slice_get (jobs_recorded ρ) k) (slice_get (existing ρ ρ.setting.horizon) k))
 
   abbrev pub released : ℕ → Bool
   released k =
@@ -73,17 +72,17 @@ module _ (ρ : Run) where
 
 -- the least record that fails
 abbrev pub first_bad : Run → (ℕ → Bool) → Option Place
-first_bad ρ good = map one (first (λ k. not (good k)) 0 (size ρ))
+first_bad ρ good = option_map one (first (λ k. not (good k)) 0 (size ρ))
 
 unfoldable pub find : Rule → Run → Option Place
-find rule1 ρ = map one (first (differ ρ) 0 (max (length (jobs_recorded ρ)) (length (existing ρ ρ.setting.horizon))))
+find rule1 ρ = option_map one (first (differ ρ) 0 (max (length (jobs_recorded ρ)) (length (existing ρ ρ.setting.horizon))))
 find rule2 ρ = first_bad ρ (released ρ)
 find rule3 ρ = first_bad ρ (started ρ)
 find rule4 ρ = first_bad ρ (lasted ρ)
 find rule5 ρ = first_bad ρ (λ k. is_core ρ (rec ρ k).core)
-find rule6 ρ = map two (first_of (λ a. first (overlap ρ a) (suc a) (size ρ - suc a)) 0 (size ρ))
-find rule7 ρ = map two (first_of (λ a. first (out_of_order ρ a) 0 (size ρ)) 0 (size ρ))
-find rule8 ρ = map three (first_of (idle ρ) 0 (size ρ))
+find rule6 ρ = option_map two (first_of (λ a. first (overlap ρ a) (suc a) (size ρ - suc a)) 0 (size ρ))
+find rule7 ρ = option_map two (first_of (λ a. first (out_of_order ρ a) 0 (size ρ)) 0 (size ρ))
+find rule8 ρ = option_map three (first_of (idle ρ) 0 (size ρ))
 find rule9 ρ = first_bad ρ (in_turn ρ)
 
 -- the lowest broken rule, by its number, and its first place

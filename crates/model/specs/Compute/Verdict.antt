@@ -1,7 +1,6 @@
 -- The five numbers, computed: `verdict ρ` is the five numbers that `Verdict ρ` says, `check b` those of `Answered b`
 -- (proofs/Verdict.antt).
-use Rattle.std.specs.Prelude.{ℕ, Bool, ◌&&◌, List, ltb}
-use Rattle.std.proofs.Math.Option.{Option, none, some}
+use Rattle.std.specs.Prelude.{ℕ, Bool, ◌&&◌, List, ltb, None, Option, Some}
 use Rattle.base.specs.Find.{first, count}
 use Rattle.model.specs.Model.{Run, rec, due}
 use Rattle.model.specs.File.{Read, refused, whole, read}
@@ -21,16 +20,16 @@ module _ (ρ : Run) where
 
 -- the first late record that begins before H, the first late record, the number of late records
 abbrev pub timely_of : Option ℕ → Option ℕ → ℕ → Five
-timely_of (some k) l n = late_before_H n k
-timely_of none (some k) n = late_from_H n k
-timely_of none none n = in_time
+timely_of (Some k) l n = late_before_H n k
+timely_of None (Some k) n = late_from_H n k
+timely_of None None n = in_time
 
 unfoldable pub timely : Run → Five
 timely ρ = timely_of (first (late_early ρ) 0 (size ρ)) (first (late ρ) 0 (size ρ)) (late_count ρ)
 
 abbrev pub verdict_of : Option (ℕ × Place) → Run → Five
-verdict_of (some p) ρ = rule_broken p.0 p.1
-verdict_of none ρ = timely ρ
+verdict_of (Some p) ρ = rule_broken p.0 p.1
+verdict_of None ρ = timely ρ
 
 unfoldable pub verdict : Run → Five
 verdict ρ = verdict_of (lowest ρ) ρ

@@ -1,13 +1,13 @@
 -- The file's own refusals, 11, or how many tasks are stored. Assumes nothing.
-use mathlib.Core.Path.{sym, ◌∙◌}
+use Rattle.std.proofs.lemmas.Result.{err_from_is_err_and}
+use Rattle.openfile.proofs.WholeOrRefused.{ok_tells, err_tells}
 use Rattle.tasklist.proofs.Plan.{plan_refused, plan_whole}
 use Rattle.tasklist.proofs.planned.Goals as goal
 
-pub returns-in-Refused : goal.returns-in-Refused
-returns-in-Refused c = λ l e. plan_refused _ l _ _ (sym c.in-Refused.is ∙ c.open_file.ensures)
+pub returns-in_err-head : goal.returns-in_err-head
+returns-in_err-head c = λ l e.
+    let p = err_from_is_err_and c.from_residual.result c.from_residual.ensures.1 in
+    rw (p.1, p.2) (plan_refused _ l _ (err_tells _ c.open_file.ensures c.in_err-head.was))
 
-pub returns-in-Whole : goal.returns-in-Whole
-returns-in-Whole c =
-    λ l e.
-    plan_whole _ l _ _ (sym c.in-Whole.is ∙ c.open_file.ensures)
-    (rw e c.room_for.ensures)
+pub returns : goal.returns
+returns c = λ l e. plan_whole _ l _ _ (ok_tells _ c.open_file.ensures c.in_ok-head.was) (rw e c.room_for.ensures)

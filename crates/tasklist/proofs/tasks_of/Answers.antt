@@ -13,7 +13,7 @@ use Rattle.tasklist.specs.Stored.{Filled}
 use Rattle.tasklist.proofs.tasks_of.Goals as goal
 
 pub filled-requires : goal.filled-requires
-filled-requires c = let (ρ, T) = c.requires in record { there = tells_room T; room = (tells_few T).1 }
+filled-requires c = let T = c.args.o.tells in record { there = tells_room T; room = (tells_few T).1 }
 
 zeros-after : {b : List ℕ} {h : Head} {ρ : Run} {l : List Task} → Tells b h ρ → Filled b h.tasks (replicate most_tasks no_task) l
     → l ≡ ρ.tasks ++ replicate (most_tasks - length ρ.tasks) no_task
@@ -22,4 +22,4 @@ zeros-after {h = h} T e =
     e ∙ (λ κ. sym (tells_tasks T) κ ++ rest κ)
 
 pub returns : goal.returns
-returns c = λ ρ T. zeros-after T c.filled.ensures
+returns c = zeros-after c.args.o.tells c.filled.ensures

@@ -1,20 +1,11 @@
 -- A number's last digit stands after those of its tenth, which has fewer. Assumes nothing.
 use native.Mathlib.Omega.{arith}
-use Rattle.decimal.proofs.Decimal.{decimal_small, decimal_more, length_small, length_more}
+use Rattle.decimal.proofs.Decimal.{decimal_small, decimal_more, length_more}
 use Rattle.text.proofs.Paste.{wrote_more}
 use Rattle.text.proofs.+put_decimal.Goals as goal
 
-pub put_byte-requires : goal.put_byte-requires
-put_byte-requires t c = omega (arith, length_small c.args.v (omega arith))
-
 pub returns-then-v-lt10 : goal.returns-then-v-lt10
 returns-then-v-lt10 t c = rw (decimal_small c.args.v (omega arith)) c.put_byte.ensures
-
-pub put_decimal-next-requires : goal.put_decimal-next-requires
-put_decimal-next-requires t c = (omega arith, omega (arith, length_more c.args.v (omega arith) (omega arith)))
-
-pub put_byte-requires-2 : goal.put_byte-requires-2
-put_byte-requires-2 t c = omega (arith, length_more c.args.v (omega arith) (omega arith))
 
 pub returns : goal.returns
 returns t c =

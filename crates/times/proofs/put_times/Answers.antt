@@ -22,9 +22,6 @@ overflow_cast-due c =
     let (l, (σ, J, R, e)) = c.requires in
     omega (arith, times_fit c.args.stage J R e l, c.deadline-due.ensures)
 
-pub ready_at-ready-requires : goal.ready_at-ready-requires
-ready_at-ready-requires c = let (l, (σ, J, R, e)) = c.requires in (R.lent.sized, l)
-
 pub returns-in-Release : goal.returns-in-Release
 unfolding filled
 returns-in-Release c = λ σ J R e.

@@ -1,10 +1,6 @@
 -- The rows of the first k records are filled in, and what comes after them stands. Assumes nothing.
-use Rattle.std.proofs.Common.{◌-◌}
 use Rattle.times.proofs.RowAfterRow.{Filling}
 use Rattle.times.proofs.times_from.Given as goal
 
 abbrev pub invariant-loop-k : goal.invariant-loop-k
 invariant-loop-k l = Filling l.stage l.tasks l.fn.t l.n l.t l.k
-
-abbrev pub decreases-loop-k : goal.decreases-loop-k
-decreases-loop-k l = l.n - l.k

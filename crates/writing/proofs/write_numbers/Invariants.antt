@@ -1,10 +1,7 @@
-use Prim.Native.Nat.{◌≤◌, ◌+◌, ◌*◌, ◌-◌}
+use Prim.Native.Nat.{◌+◌, ◌*◌}
 use lib.ListN.{take}
 use Rattle.writing.specs.WrittenRows.{Wrote}
 use Rattle.writing.proofs.write_numbers.Given as goal
 
 abbrev pub invariant-loop-i : goal.invariant-loop-i
-invariant-loop-i l = (l.i ≤ l.count) × Wrote l.initial.output l.at (take l.i l.numbers) l.output (l.at + 4 * l.i)
-
-abbrev pub decreases-loop-i : goal.decreases-loop-i
-decreases-loop-i l = l.count - l.i
+invariant-loop-i l = Wrote l.initial.output l.at (take l.i l.numbers) l.output (l.at + 4 * l.i)

@@ -1,10 +1,7 @@
-use Prim.Native.Nat.{◌≤◌, ◌+◌, ◌-◌}
+use Prim.Native.Nat.{◌+◌}
 use Rattle.model.specs.File.{tasks_place, records_place}
 use Rattle.writing.specs.WrittenRows.{Wrote, rows, task_row}
 use Rattle.writing.proofs.write_tasks.Given as goal
 
 abbrev pub invariant-loop-i : goal.invariant-loop-i
-invariant-loop-i l = (l.i ≤ l.n) × Wrote l.initial.output (tasks_place + 4) (rows (task_row l.tasks) l.i) l.output (records_place l.i)
-
-abbrev pub decreases-loop-i : goal.decreases-loop-i
-decreases-loop-i l = l.n - l.i
+invariant-loop-i l = Wrote l.initial.output (tasks_place + 4) (rows (task_row l.tasks) l.i) l.output (records_place l.i)

@@ -1,7 +1,5 @@
 -- The two questions, each of which asks the other: at each round the start is lower. Assumes nothing.
-use mathlib.Core.Path.{ap}
 use native.Mathlib.Omega.{arith}
-use Rattle.base.specs.Find.{seen}
 use Rattle.model.specs.Rules.{rule1}
 use Rattle.causes.proofs.WhoseEnd.{cause_waited}
 use Rattle.chain.proofs.PutChain.{told_one, told_more, told_cause}
@@ -15,19 +13,19 @@ whose_end-cause-requires t c = let (l, b, (ρ, T, late)) = c.requires in (l, (ρ
 
 pub whose_end-returns-in_default : goal.whose_end-returns-in_default
 whose_end-returns-in_default t c ρ j l T C D =
-    absurd (cause_lost T (c.cause.ensures ρ (T.obeys rule1) T.table (cause_waited ρ (traced_limits T) T.obeys C)) (ap seen c.in_default.is) C)
+    absurd (cause_lost T (c.cause.ensures ρ (T.obeys rule1) T.table (cause_waited ρ (traced_limits T) T.obeys C)) c.in_default.is C)
 
 pub whose_end-why_began-requires : goal.whose_end-why_began-requires
 whose_end-why_began-requires t c =
     let (l, b, (ρ, T, late)) = c.requires in
-    let C = cause_is T l late (c.cause.ensures ρ (T.obeys rule1) T.table late) (ap seen c.in-At.is) in
+    let C = cause_is T l late (c.cause.ensures ρ (T.obeys rule1) T.table late) c.in-Some.is in
     let (h, s) = start_falls T l C in
     (omega (arith, s), (h, omega (arith, s, b), (ρ, T)))
 
 pub whose_end-returns : goal.whose_end-returns
 whose_end-returns t c ρ j l T C D =
     let late = cause_waited ρ (traced_limits T) T.obeys C in
-    let B = cause_is T c.requires.0 late (c.cause.ensures ρ (T.obeys rule1) T.table late) (ap seen c.in-At.is) in
+    let B = cause_is T c.requires.0 late (c.cause.ensures ρ (T.obeys rule1) T.table late) c.in-Some.is in
     told_cause ρ (traced_limits T) T.obeys B C D (λ m E. c.why_began.ensures ρ m T E)
 
 -- Why it began

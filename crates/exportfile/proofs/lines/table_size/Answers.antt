@@ -1,31 +1,30 @@
--- As long as the lines of the records so far. Assumes nothing.
-use mathlib.Core.Path.{◌≡◌, ap}
-use mathlib.Core.List.{[]}
-use native.Mathlib.Omega.{arith}
-use lib.ListN.{length}
-use Rattle.exchange.specs.RecordLine.{record_line}
-use Rattle.exportfile.proofs.LineBytes.{table_size, records_on}
+-- The header, and as long as the lines of the records. Assumes nothing.
+use Rattle.std.proofs.Common.{rules, ◌≡◌, ◌<◌, ◌^◌, arith}
+use Rattle.std.specs.List.{sum_by, range_with_len}
+use Rattle.std.proofs.lemmas.Iterator.{YieldsList-from_map, YieldsList-from_range}
+use Rattle.std.proofs.lemmas.Iterator.Consumers.{sum_by_from_yields_List, fits_by_from_yields_list}
+use borrow.Author.Tests.{tests}
+use Rattle.exportfile.proofs.LineBytes.{line_long, lines_long, lines_few}
 use Rattle.exportfile.proofs.lines.table_size.Goals as goal
+use Rattle.exportfile.proofs.lines.table_size.Goals.{After-sum}
 
-pub loop-k-preserved : goal.loop-k-preserved
-loop-k-preserved c =
+pub sum-requires-clause-fits : goal.sum-requires-clause-fits
+sum-requires-clause-fits c =
     let a = c.args in
-    let line = ap (λ x. length (record_line x)) c.record_at.ensures in
-    (omega arith, omega (arith, line, records_on a.file.now a.at c.loop-k.k), omega arith)
+    let line = line_long a.file.now a.at in
+    let few : sum_by line (range_with_len 0 a.n) < 2 ^ 64 = omega (arith, lines_few a.file.now a.at a.n) in
+    fits_by_from_yields_list line (range_with_len 0 a.n) c.map.result _
+    (YieldsList-from_map _ line (YieldsList-from_range 0 a.n a.n c.map.ensures.source (omega arith)) c.map.ensures.closure (λ x r q k. search (rules, tests))) few
+
+lines_told : (c : After-sum) → c.sum.result ≡ sum_by (line_long c.args.file.now c.args.at) (range_with_len 0 c.args.n)
+lines_told c =
+    let a = c.args in
+    let line = line_long a.file.now a.at in
+    sum_by_from_yields_List line (range_with_len 0 a.n) c.map.result _ c.sum.ensures.ran
+    (YieldsList-from_map _ line (YieldsList-from_range 0 a.n a.n c.map.ensures.source (omega arith)) c.map.ensures.closure (λ x r q k. search (rules, tests)))
+
+pub overflow_add-result : goal.overflow_add-result
+overflow_add-result c = omega (arith, lines_told c, lines_few c.args.file.now c.args.at c.args.n)
 
 pub returns : goal.returns
-returns c =
-    let e : c.loop-k.k ≡ c.args.n = omega arith in
-    rw e at c.loop-k.invariant.1
-
-pub loop-k-init : goal.loop-k-init
-loop-k-init c = (omega arith, omega (arith, table_size []), omega arith)
-
-pub overflow_add-size : goal.overflow_add-size
-overflow_add-size c = omega arith
-
-pub overflow_add-k : goal.overflow_add-k
-overflow_add-k c = omega arith
-
-pub loop-k-smaller : goal.loop-k-smaller
-loop-k-smaller c = omega arith
+returns c = omega (arith, lines_told c, lines_long c.args.file.now c.args.at c.args.n)

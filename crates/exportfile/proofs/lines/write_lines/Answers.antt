@@ -17,7 +17,7 @@ put_bytes-next-requires c =
     omega (arith, ap length c.header_line-header.ensures, length-header, size)
 
 pub loop-k-init : goal.loop-k-init
-loop-k-init c = (omega arith, wrote_none _ refl)
+loop-k-init c = wrote_none _ refl
 
 -- there is room for one line more
 pub put_record-next-requires : goal.put_record-next-requires
@@ -26,7 +26,7 @@ put_record-next-requires c =
     let loop = c.loop-k in
     let line = ap (λ x. length (record_line x)) c.record_at.ensures in
     let head = rw c.header_line-header.ensures at c.put_bytes-next.ensures in
-    omega (arith, loop.invariant.1, head, length-header, line, line_fits a.file.now a.at a.order.now loop.k (omega arith))
+    omega (arith, loop.invariant, head, length-header, line, line_fits a.file.now a.at a.order.now loop.k-index (omega arith))
 
 pub loop-k-preserved : goal.loop-k-preserved
 loop-k-preserved c =
@@ -35,15 +35,13 @@ loop-k-preserved c =
     let read = c.record_at.ensures in
     let line = ap (λ x. length (record_line x)) read in
     let head = rw c.header_line-header.ensures at c.put_bytes-next.ensures in
-    let fits = line_fits a.file.now a.at a.order.now loop.k (omega arith) in (
-      omega arith,
-      wrote_line_on a.file.now a.at a.order.now loop.k (omega arith) loop.invariant.1 c.put_record-next.ensures read
-          (omega (arith, loop.invariant.1, head, length-header, line, fits)),
-    )
+    let fits = line_fits a.file.now a.at a.order.now loop.k-index (omega arith) in
+    wrote_line_on a.file.now a.at a.order.now loop.k-index (omega arith) loop.invariant c.put_record-next.ensures read
+    (omega (arith, loop.invariant, head, length-header, line, fits))
 
 pub returns : goal.returns
 returns c =
     let a = c.args in
     let head = rw c.header_line-header.ensures at c.put_bytes-next.ensures in
-    let e : c.loop-k.k ≡ length a.order.now = omega arith in
-    wrote_table a.file.now a.at a.order.now head (rw e at c.loop-k.invariant.1) c.requires
+    let e : c.loop-k.k-index ≡ length a.order.now = omega arith in
+    wrote_table a.file.now a.at a.order.now head (rw e at c.loop-k.invariant) c.requires

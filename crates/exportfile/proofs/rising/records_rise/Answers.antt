@@ -1,36 +1,29 @@
--- Each pair of neighbours so far rises. Assumes nothing.
-use mathlib.Core.Path.{◌∙◌}
-use native.Mathlib.Omega.{arith}
-use borrow.Author.Rules.{rules}
-use Rattle.base.proofs.Loop.{none_yet, none_on}
-use Rattle.exportfile.proofs.RisesOrStays.{stays_is, rises_not, rises_all}
+-- Each pair of neighbours rises. Assumes nothing.
+use Rattle.std.proofs.Common.{rules, ◌≡◌, sym, ap, ◌∙◌, ◌+◌, ◌<◌, ◌≤◌, ℕ, true, map, get_or, Some, arith}
+use Rattle.std.proofs.iter.runs.Sources.{ranges, range_runs}
+use borrow.Author.Tests.{tests}
+use lib.ListN.{get_or-map}
+use Rattle.exchange.specs.Import.{job_before}
+use Rattle.exportfile.specs.LinesOf.{record_of}
+use Rattle.exportfile.proofs.RisesOrStays.{rise_said}
 use Rattle.exportfile.proofs.rising.records_rise.Goals as goal
 
--- what the test of two neighbours says
-pub returns-then-not-goes_before : goal.returns-then-not-goes_before
-returns-then-not-goes_before c =
-    let tested = stays_is _ _ _ c.goes_before.ensures c.loop-k.invariant.2 c.record_at-next.ensures in
-    rises_not _ _ c.loop-k.invariant.1 (omega arith) (tested ∙ search rules)
-
-pub loop-k-preserved : goal.loop-k-preserved
-loop-k-preserved c =
-    let tested = stays_is _ _ _ c.goes_before.ensures c.loop-k.invariant.2 c.record_at-next.ensures in
-    (omega arith, none_on _ c.loop-k.invariant.1 (tested ∙ search rules), c.record_at-next.ensures)
-
 pub returns : goal.returns
-returns c = rises_all _ _ c.loop-k.invariant.1 (omega arith)
-
-pub loop-k-init : goal.loop-k-init
-loop-k-init c = (omega arith, none_yet _, c.record_at-before.ensures)
-
-pub overflow_add-k : goal.overflow_add-k
-overflow_add-k c = omega arith
-
-pub overflow_add-k-in-loop-k : goal.overflow_add-k-in-loop-k
-overflow_add-k-in-loop-k c = omega arith
-
-pub overflow_add-k-in-loop-k-2 : goal.overflow_add-k-in-loop-k-2
-overflow_add-k-in-loop-k-2 c = omega arith
-
-pub loop-k-smaller : goal.loop-k-smaller
-loop-k-smaller c = omega arith
+returns c =
+    let a = c.args in
+    let read = record_of a.file.now a.at in
+    let (p, from, (whole, h)) = c.is_sorted_by.ensures.runs in
+    let (q, start, run) = c.map.ensures.runs p p.seen from in
+    let items : p.items ≡ map read q.items = run.3 _ (λ x r f k. search (rules, tests)) in
+    let counts = range_runs q q.seen in
+    let few : p.len ≤ a.n = search (rules, ranges) in
+    let long : p.whole ≡ true → p.len ≡ a.n = search (rules, ranges) in
+    let first : q.from.start ≡ 0 = ap (λ s. s.start) start in
+    let number : (k : ℕ) → k < q.len → get_or q.items k 0 ≡ k =
+    λ k l.
+    let e : Some (get_or q.items k 0) ≡ Some (q.from.start + k) = sym (q.reads k 0 l) ∙ counts.3 k l in
+    let z : get_or q.items k 0 ≡ q.from.start + k = cc in
+    omega (arith, first) in
+    rise_said a.file.now a.at p.items (read 0)
+    (λ k l. ap (λ xs. get_or xs k (read 0)) items ∙ get_or-map read q.items k 0 ∙ ap read (number k (omega (arith, l, p.long, run.1))))
+    a.n _ (omega (arith, p.long, few)) (λ e. let w : p.whole ≡ true = search rules in omega (arith, p.long, long w)) (h job_before (λ x y r f k. search (rules, tests))).0

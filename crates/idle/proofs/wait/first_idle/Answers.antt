@@ -1,10 +1,11 @@
 -- The first instant at which a core idles is within the wait, or there is none. Assumes nothing.
-use mathlib.Core.Path.{sym, ◌∙◌, ap}
-use mathlib.Core.Bool.{true≢false}
+use Rattle.std.specs.Prelude.{option_map}
+use Prim.Native.Nat.{ℕ}
+use mathlib.Core.Path.{◌≡◌, ◌∙◌}
+use borrow.Author.Rules.{rules}
 use native.Mathlib.Omega.{arith}
-use Rattle.base.specs.Find.{seen, found}
-use Rattle.base.proofs.Loop.{nothing_yet, first_of_hit, first_of_miss}
-use Rattle.idle.proofs.Idle.{IdleFrom, all_begun, not_begun_lem, none_idles}
+use Rattle.base.proofs.Loop.{nothing_yet, first_of_miss}
+use Rattle.idle.proofs.Idle.{IdleFrom, all_begun, not_begun_lem, none_idles, idles_at}
 use Rattle.idle.proofs.wait.first_idle.Goals as goal
 use Rattle.idle.proofs.wait.first_idle.Goals.{Joined-begun-from, then-begun-from, else-begun-from}
 
@@ -12,7 +13,7 @@ use Rattle.idle.proofs.wait.first_idle.Goals.{Joined-begun-from, then-begun-from
 abbrev Least : Joined-begun-from → Type 0
 Least c =
     let a = c.args in
-    IdleFrom a.start.now a.end.now a.core.now a.cores a.from c.if-begun-from.least
+    IdleFrom a.records.start.now a.records.end.now a.records.core.now a.cores a.from c.if-begun-from.least
 
 least : (c : Joined-begun-from) → Least c
 least c =
@@ -29,12 +30,8 @@ returns-then-to-from c = first_of_miss _ _ _ (omega arith) (nothing_yet _)
 pub returns-then-to-least : goal.returns-then-to-least
 returns-then-to-least c = first_of_miss _ _ _ (omega arith) (none_idles _ _ _ _ (least ((goal.at.returns-then-to-least c).Joined-begun-from)))
 
-pub returns-in-At : goal.returns-in-At
-returns-in-At c =
-    let L = least ((goal.at.returns-in-At c).Joined-begun-from) in
-    first_of_hit _ _ _ L.from (omega arith) (none_idles _ _ _ _ L) (sym c.idle_core.ensures ∙ ap seen c.in-At.is)
-
 pub returns : goal.returns
 returns c =
-    let z = sym c.idle_core.ensures ∙ ap seen c.in_default.is in
-    absurd (true≢false (sym ((least ((goal.at.returns c).Joined-begun-from)).here (omega arith)) ∙ ap found z))
+    let L = least ((goal.at.returns c).Joined-begun-from) in
+    let e : c.map.result ≡ option_map (λ (k : ℕ). (c.if-begun-from.least, k)) c.idle_core.result = search rules in
+    e ∙ idles_at _ _ _ _ L (omega arith) (omega arith) _ c.idle_core.ensures

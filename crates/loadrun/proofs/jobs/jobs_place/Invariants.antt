@@ -1,4 +1,4 @@
-use Prim.Native.Nat.{◌-◌, ◌≤◌}
+use Prim.Native.Nat.{◌≤◌}
 use Rattle.model.specs.Model.{Run, most_jobs}
 use Rattle.openfile.specs.Head.{Known}
 use Rattle.table.specs.Table.{Lent, recorded}
@@ -6,7 +6,4 @@ use Rattle.loadrun.proofs.SameJobs.{SameTo}
 use Rattle.loadrun.proofs.jobs.jobs_place.Given as goal
 
 abbrev pub invariant-loop-i : goal.invariant-loop-i
-invariant-loop-i l = (l.i ≤ l.head.tasks) × (l.at ≤ most_jobs) × ((ρ : Run) → Known l.head l.tasks ρ → Lent recorded ρ l.t l.n → SameTo ρ l.i l.at)
-
-abbrev pub decreases-loop-i : goal.decreases-loop-i
-decreases-loop-i l = l.head.tasks - l.i
+invariant-loop-i l = (l.at ≤ most_jobs) × ((ρ : Run) → Known l.fn.head l.fn.tasks ρ → Lent recorded ρ l.t l.n → SameTo ρ l.i l.at)

@@ -1,24 +1,22 @@
-use borrow.Author.Rules.{rules}
-use mathlib.Core.Path.{◌≡◌, sym, ◌∙◌, ap}
-use mathlib.Core.Bool.{Bool}
-use native.Mathlib.Omega.{arith}
-use Rattle.base.proofs.Loop.{none_yet, none_on, first_hit, first_miss}
-use Rattle.model.specs.declared.record.Record.{Record}
-use Rattle.model.specs.Model.{Job, job_of, same_job}
+-- What `find` finds in a range is the first that passes. Assumes nothing.
+use Rattle.std.proofs.Common.{rules, ◌≡◌, ℕ, ◌+◌, ◌*◌, ◌<◌, ◌≤◌, Bool, true, false, Option, Some, None, arith}
+use Rattle.std.specs.Option.{MatchOption}
+use Rattle.std.proofs.lemmas.Iterator.{first_from_Range}
+use borrow.Author.Tests.{tests}
+use Rattle.base.specs.Find.{first}
+use Rattle.base.proofs.Loop.{first_hit, first_miss}
+use Rattle.model.specs.Model.{job_of, same_job}
+use Rattle.model.specs.File.{record_at, record_size}
 use Rattle.reader.proofs.search.least_record.Goals as goal
 
--- what was asked of a record that was read
-tested : (q : Job) {x y : Record} {t u : Bool} → x ≡ y → t ≡ same_job (job_of x) q → t ≡ u → same_job (job_of y) q ≡ u
-tested q w z e = ap (λ x. same_job (job_of x) q) (sym w) ∙ (sym z ∙ e)
-
-pub loop-k-init : goal.loop-k-init
-loop-k-init c = (search rules, none_yet _)
-
-pub returns-then-is_of : goal.returns-then-is_of
-returns-then-is_of c = first_hit _ 0 _ (omega arith) (omega arith) c.loop-k.invariant.1 (tested _ c.record_at.ensures c.is_of.ensures c.if-is_of.true)
-
-pub loop-k-preserved : goal.loop-k-preserved
-loop-k-preserved c = (search rules, none_on _ c.loop-k.invariant.1 (tested _ c.record_at.ensures c.is_of.ensures c.if-is_of.false))
+first_told : (p : ℕ → Bool) (n : ℕ) (r : Option ℕ)
+    → MatchOption r ((k : ℕ) → 0 ≤ k → k < n → p k ≡ false) (λ i. (0 ≤ i) × (i < n) × (p i ≡ true) × ((k : ℕ) → 0 ≤ k → k < i → p k ≡ false))
+    → r ≡ first p 0 n
+first_told p n None none = first_miss p 0 n (omega arith) (record { below = none })
+first_told p n (Some k) (low, high, here, before) = first_hit p 0 n low (omega arith) (record { below = before }) here
 
 pub returns : goal.returns
-returns c = first_miss _ 0 _ (omega arith) c.loop-k.invariant.1
+returns c =
+    let p = λ (k : ℕ). same_job (job_of (record_at c.args.file.now (c.args.at + record_size * k))) (c.args.task, c.args.job) in
+    first_told p c.args.n _
+    (first_from_Range _ _ _ _ (λ k. p k ≡ true) (λ k. p k ≡ false) c.find.ensures.ran (λ x q k. search (rules, tests)) (λ x q k. search (rules, tests)))

@@ -1,12 +1,9 @@
-use Prim.Native.Nat.{◌+◌, ◌*◌, ◌-◌, ◌≤◌}
+-- Each place up to here has its record's number. Assumes nothing.
+use Prim.Native.Nat.{ℕ, ◌+◌, ◌*◌, ◌<◌}
 use mathlib.Core.Path.{◌≡◌}
-use lib.ListN.{length}
-use Rattle.base.specs.Fill.{Fills}
+use lib.ListN.{get_or}
 use Rattle.model.specs.File.{num, record_size}
 use Rattle.runfile.proofs.column.read_column.Given as goal
 
 abbrev pub invariant-loop-k : goal.invariant-loop-k
-invariant-loop-k l = (l.k ≤ l.n) × (length l.t ≡ length l.initial.t) × Fills l.initial.t l.from l.k (λ i. num l.file (l.at + record_size * i)) l.t
-
-abbrev pub decreases-loop-k : goal.decreases-loop-k
-decreases-loop-k l = l.n - l.k
+invariant-loop-k l = (i : ℕ) → i < l.k → get_or l.x-items i 0 ≡ num l.file (l.at + record_size * i)

@@ -1,6 +1,6 @@
--- A turn lists the jobs of the next task, which have room. Assumes nothing.
+-- A turn puts the jobs of the next task into their rows. Assumes nothing.
 use borrow.Author.Rules.{rules}
-use Rattle.standing.proofs.JobRows.{listing_none, fitting, listing_on, listing_all}
+use Rattle.standing.proofs.JobRows.{listing_none, fitting, listing_on}
 use Rattle.standing.proofs.jobs.list_jobs.Goals as goal
 
 pub loop-i-init : goal.loop-i-init
@@ -14,7 +14,4 @@ overflow_add-at c = let l = fitting c.loop-i.invariant c.loop-i-test.true c.jobs
 
 pub loop-i-preserved : goal.loop-i-preserved
 loop-i-preserved c =
-    listing_on c.loop-i.invariant c.loop-i-test.true c.jobs-count.ensures (search rules) c.list_task.ensures
-
-pub returns : goal.returns
-returns c = listing_all c.loop-i.invariant c.loop-i-test.false
+    listing_on c.loop-i.invariant c.loop-i-test.true c.jobs-count.ensures c.list_task.auto.t c.list_task.ensures

@@ -1,10 +1,6 @@
 -- The first j jobs of the task are there. Assumes nothing.
-use Prim.Native.Nat.{◌-◌}
 use Rattle.standing.proofs.JobRows.{Tasked}
 use Rattle.standing.proofs.jobs.list_task.Given as goal
 
 abbrev pub invariant-loop-j : goal.invariant-loop-j
 invariant-loop-j l = Tasked l.i l.count l.initial.t l.m l.at l.t l.j
-
-abbrev pub decreases-loop-j : goal.decreases-loop-j
-decreases-loop-j l = l.count - l.j

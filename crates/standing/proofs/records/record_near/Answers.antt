@@ -7,10 +7,10 @@ use Rattle.standing.proofs.records.record_near.Goals as goal
 
 pub returns-then-is_of : goal.returns-then-is_of
 returns-then-is_of c ρ T J e =
-    near_is T J _ _ c.if-near-head.true c.record_at.ensures c.is_of.ensures c.if-is_of.true
+    near_is T J _ _ c.if-near-o.true c.record_at.ensures c.is_of.ensures c.if-is_of.true
 
 pub returns-then-jobs-j : goal.returns-then-jobs-j
 returns-then-jobs-j c ρ T J e = not_yet T J _ _ e (omega (arith, c.jobs.ensures))
 
-pub returns : goal.returns
-returns c ρ T J e = c.least_record.ensures ∙ least_told T _
+pub returns-else-jobs-j : goal.returns-else-jobs-j
+returns-else-jobs-j c ρ T J e = c.least_record.ensures ∙ least_told T _

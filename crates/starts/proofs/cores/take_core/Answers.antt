@@ -1,18 +1,24 @@
--- The pass over the cores. Assumes nothing.
-use Prim.Native.Nat.{◌+◌}
-use mathlib.Core.Path.{◌≡◌, refl}
-use native.Mathlib.Omega.{arith}
+-- One of the cores is free, and the first that is is taken. Assumes nothing.
+use Prim.Native.Nat.{◌≤◌, ◌<◌}
 use borrow.Author.Rules.{rules}
-use Rattle.starts.proofs.Taking.{none_taken, all_tried}
+use native.Mathlib.Omega.{arith}
+use lib.ListN.{get_or}
+use Rattle.std.proofs.lemmas.Iterator.{first_from_Range}
+use Rattle.starts.proofs.Taking.{Tried, some_free, free_at}
 use Rattle.starts.proofs.cores.take_core.Goals as goal
+use Rattle.starts.proofs.cores.take_core.Goals.{After-find}
 
-pub loop-c-init : goal.loop-c-init
-loop-c-init c = (search rules, search rules, none_taken (search rules) refl refl refl)
+tried : (c : After-find) → Tried c.args.cores.now.ends c.args.n c.args.t c.find.result
+tried c =
+    let xs = c.args.cores.now.ends in
+    let t = c.args.t in
+    first_from_Range _ _ _ c.find.result (λ k. get_or xs k 0 ≤ t) (λ k. t < get_or xs k 0) c.find.ensures.ran
+    (λ k q h. search rules) (λ k q h. search rules)
 
-pub loop-c-preserved : goal.loop-c-preserved
-loop-c-preserved c = (search rules, search rules, c.try_core-next.ensures _ c.loop-c.invariant.2)
+pub unwrap-core-requires : goal.unwrap-core-requires
+unwrap-core-requires c = some_free _ _ _ c.find.result (tried ((goal.at.unwrap-core-requires c).After-find)) c.requires.2
 
-pub returns : goal.returns
-returns c =
-    let e : c.loop-c.c ≡ c.args.n + 1 = omega arith in
-    all_tried c.requires.1 c.requires.2 (rw e at c.loop-c.invariant.2)
+pub bounds-cores-core : goal.bounds-cores-core
+bounds-cores-core c =
+    let f = free_at _ _ _ c.unwrap-core.ensures (tried ((goal.at.bounds-cores-core c).After-find)) in
+    omega (arith, f.1, c.requires.1)

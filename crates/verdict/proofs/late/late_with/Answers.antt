@@ -10,8 +10,8 @@ returns-then-end-due c ds ss es d s e L = in_time_on _ _ _ _ L (omega arith)
 
 pub returns : goal.returns
 returns c ds ss es d s e L =
-    late_on _ _ _ _ L (omega arith) c.or_this.ensures
+    late_on _ _ _ _ L (omega arith) c.or.ensures
     (elim c.if-start-horizon.branch [
-      | then-start-horizon w ↦ early_on _ _ _ _ L (omega arith) (omega arith) (w.early-is ∙ w.or_this-early.ensures)
+      | then-start-horizon w ↦ early_on _ _ _ _ L (omega arith) (omega arith) (w.early-is ∙ w.or-early.ensures)
       | else-start-horizon w ↦ early_kept _ _ _ _ L (omega arith) w.early-is
     ])

@@ -1,14 +1,7 @@
 -- Rules 7 to 9 in order, and then the late records. Assumes nothing.
+use Rattle.std.specs.Prelude.{ℕ, None, Option, option_map}
 use mathlib.Core.Path.{◌≡◌, sym, ◌∙◌, ap}
-use mathlib.Core.Option.{map}
 use native.Mathlib.Omega.{arith}
-use Rattle.base.specs.Find.{seen, seen_two, seen_three}
-use Rattle.base.specs.declared.Found.{Found}
-use Rattle.base.specs.declared.Found.TheVariants.{Nothing}
-use Rattle.base.specs.declared.FoundTwo.{FoundTwo}
-use Rattle.base.specs.declared.FoundTwo.TheVariants.{Nothing as NoTwo}
-use Rattle.base.specs.declared.FoundThree.{FoundThree}
-use Rattle.base.specs.declared.FoundThree.TheVariants.{Nothing as NoThree}
 use Rattle.model.specs.Compute.Places.{find, one, two, three}
 use Rattle.model.specs.Model.{Run}
 use Rattle.model.specs.Rules.{rule7, rule8, rule9}
@@ -18,32 +11,32 @@ use Rattle.verdict.proofs.Tied.{column_is, timely_tied}
 use Rattle.verdict.proofs.run.judge_order.Goals as goal
 
 -- a rule that found nothing
-past-7 : (ρ : Run) {o : FoundTwo} → map two (seen_two o) ≡ find rule7 ρ → o ≡ NoTwo → verdict_from 7 ρ ≡ verdict_from 8 ρ
-past-7 ρ e h = passed ρ two 7 (omega arith) e (ap seen_two h)
+past-7 : (ρ : Run) {o : Option (ℕ × ℕ)} → option_map two o ≡ find rule7 ρ → o ≡ None → verdict_from 7 ρ ≡ verdict_from 8 ρ
+past-7 ρ e h = passed ρ two 7 (omega arith) e h
 
-past-8 : (ρ : Run) {o : FoundThree} → map three (seen_three o) ≡ find rule8 ρ → o ≡ NoThree → verdict_from 8 ρ ≡ verdict_from 9 ρ
-past-8 ρ e h = passed ρ three 8 (omega arith) e (ap seen_three h)
+past-8 : (ρ : Run) {o : Option (ℕ × (ℕ × ℕ))} → option_map three o ≡ find rule8 ρ → o ≡ None → verdict_from 8 ρ ≡ verdict_from 9 ρ
+past-8 ρ e h = passed ρ three 8 (omega arith) e h
 
-past-9 : (ρ : Run) {o : Found} → map one (seen o) ≡ find rule9 ρ → o ≡ Nothing → verdict_from 9 ρ ≡ verdict_from 10 ρ
-past-9 ρ e h = passed ρ one 9 (omega arith) e (ap seen h)
+past-9 : (ρ : Run) {o : Option ℕ} → option_map one o ≡ find rule9 ρ → o ≡ None → verdict_from 9 ρ ≡ verdict_from 10 ρ
+past-9 ρ e h = passed ρ one 9 (omega arith) e h
 
-pub returns-in-At : goal.returns-in-At
-returns-in-At c ρ L e s = broken ρ two 7 (omega arith) (c.out_of_order.ensures ρ L) (ap seen_two c.in-At.is)
+pub returns-in-Some : goal.returns-in-Some
+returns-in-Some c ρ L e s = broken ρ two 7 (omega arith) (c.out_of_order.ensures ρ L) c.in-Some.is
 
 pub idling-requires : goal.idling-requires
 idling-requires c = let (ρ, L, e) = c.requires in (ρ, L, ap (λ σ. σ.cores) e)
 
-pub returns-in-At-idling : goal.returns-in-At-idling
-returns-in-At-idling c ρ L e s =
-    broken ρ three 8 (omega arith) (c.idling.ensures ρ L (ap (λ σ. σ.cores) e)) (ap seen_three c.in-At-idling.is)
+pub returns-in-Some-idling : goal.returns-in-Some-idling
+returns-in-Some-idling c ρ L e s =
+    broken ρ three 8 (omega arith) (c.idling.ensures ρ L (ap (λ σ. σ.cores) e)) c.in-Some-idling.is
     ∙ sym (past-7 ρ (c.out_of_order.ensures ρ L) c.in_default.is)
 
 pub out_of_turn-requires : goal.out_of_turn-requires
 out_of_turn-requires c = let (ρ, L, e) = c.requires in (ρ, L)
 
-pub returns-in-At-out_of_turn : goal.returns-in-At-out_of_turn
-returns-in-At-out_of_turn c ρ L e s =
-    broken ρ one 9 (omega arith) (c.out_of_turn.ensures ρ L s) (ap seen c.in-At-out_of_turn.is)
+pub returns-in-Some-out_of_turn : goal.returns-in-Some-out_of_turn
+returns-in-Some-out_of_turn c ρ L e s =
+    broken ρ one 9 (omega arith) (c.out_of_turn.ensures ρ L s) c.in-Some-out_of_turn.is
     ∙ sym (past-7 ρ (c.out_of_order.ensures ρ L) c.in_default.is ∙ past-8 ρ (c.idling.ensures ρ L (ap (λ σ. σ.cores) e)) c.in_default-idling.is)
 
 pub returns : goal.returns

@@ -2,9 +2,8 @@ use Rattle.whyfile.proofs.file.trace.Goals as goal
 
 pub write_chain-requires : goal.write_chain-requires
 write_chain-requires c =
-    let (S, l, (ρ, T, O)) = c.requires in
-    (l, (ρ, record { table = (c.read_table.ensures ρ T).lent; obeys = O }))
+    let (S, l, O) = c.requires in
+    (l, (_, record { table = c.read_table.ensures.lent; obeys = O }))
 
 pub returns : goal.returns
-returns c ρ T O =
-    c.write_chain.ensures ρ (record { table = (c.read_table.ensures ρ T).lent; obeys = O })
+returns c = let (S, l, O) = c.requires in c.write_chain.ensures _ (record { table = c.read_table.ensures.lent; obeys = O })

@@ -1,10 +1,12 @@
-use mathlib.Core.Path.{sym, ◌∙◌}
-use Rattle.openfile.proofs.WholeOrRefused.{whole_tells, refused_tells}
+use mathlib.Core.Path.{subst}
+use Rattle.model.specs.Answers.{five_of}
+use Rattle.whyfile.specs.ReasonLeft.{Reasons}
 use Rattle.whyfile.proofs.EachReason.{says_own}
 use Rattle.whyfile.proofs.file.why_file.Goals as goal
 
-pub why_whole-requires : goal.why_whole-requires
-why_whole-requires c = whole_tells _ _ (sym c.in-Whole.is ∙ c.open_file.ensures)
+pub returns-in-Ok : goal.returns-in-Ok
+returns-in-Ok c =
+    subst (λ f. Reasons f.now c.args.k c.args.output.now (five_of c.why_run.result) c.why_run.new.output) c.in-Ok.ensures c.why_run.ensures
 
-pub returns-in-Refused : goal.returns-in-Refused
-returns-in-Refused c = says_own _ _ _ _ _ (refused_tells _ _ _ (sym c.in-Refused.is ∙ c.open_file.ensures))
+pub returns-in-Err : goal.returns-in-Err
+returns-in-Err c = says_own _ _ _ _ _ c.in-Err.ensures

@@ -1,4 +1,0 @@
-use Rattle.runfile.proofs.entry.task_at.Goals as goal
-
-pub returns : goal.returns
-returns c = simp (c.word_at.ensures, c.word_at-2.ensures, c.word_at-3.ensures, c.word_at-4.ensures, c.word_at-5.ensures)
