@@ -12,16 +12,16 @@ use openfile::{OpenFile, opened};
 fn export_run(o: OpenFile, output: &mut [u8]) -> Result<u32, Refusal>
     ensures { Exports o.entry.file.now output.old (five_written result) output.new }
 {
-    let rising = records_rise(o.file, o.head.records_at, o.head.records);
+    let rising = records_rise(o);
     if !rising {
         return Err(Refusal::NotRising);
     }
-    let size = table_size(o.file, o.head.records_at, o.head.records);
+    let size = table_size(o);
     let fits = size <= output.len();
     if !fits {
         return Err(Refusal::NoRoom);
     }
-    write_table(o.file, o.head.records_at, o.head.records, output);
+    write_table(o, output);
     Ok(size as u32)
 }
 

@@ -8,6 +8,7 @@ ghost use Rattle.exportfile.specs.LinesOf.{records_at, table_by};
 use decimal::digit_count;
 use exchange::{HEADER_SIZE, header_line};
 use model::Record;
+use openfile::OpenFile;
 use runfile::record_at;
 use text::{put_bytes, put_number};
 
@@ -22,13 +23,13 @@ fn line_size(x: Record) -> usize
         + 6
 }
 
-// How long the table of the n records that begin at a place is.
-pub(crate) fn table_size(file: &[u8], at: u32, n: u32) -> usize
-    ensures { result ≡ length (table_of (records_at file.now at n)) }
+// How long the table of the records of a file is.
+pub(crate) fn table_size(o: OpenFile) -> usize
+    ensures { result ≡ length (table_of (records_at o.entry.file.now o.entry.head.records_at o.entry.head.records)) }
 {
     HEADER_SIZE
-        + (0..n)
-            .map(|k| line_size(record_at(file, at, k)))
+        + (0..o.head.records)
+            .map(|k| line_size(record_at(o.file, o.head.records_at, k)))
             .sum::<usize>()
 }
 
@@ -45,14 +46,14 @@ fn put_record(output: &mut [u8], at: usize, x: Record) -> usize
     put_number(output, core, x.core, b'\n')
 }
 
-// Writes the header and the lines of some records that begin at a place, in this order.
-pub(crate) fn write_lines(file: &[u8], at: u32, order: &[u32], output: &mut [u8])
-    requires { length (table_by file.now at order.now) ≤ length output.old }
-    ensures { output.new ≡ front (table_by file.now at order.now) output.old }
+// Writes the header and the lines of some records of a file, in this order.
+pub(crate) fn write_lines(o: OpenFile, order: &[u32], output: &mut [u8])
+    requires { length (table_by o.file.now o.head.records_at order.now) ≤ length output.old }
+    ensures { output.new ≡ front (table_by o.entry.file.now o.entry.head.records_at order.now) output.old }
 {
     let header = header_line();
     let mut next = put_bytes(output, 0, &header);
     for k in order {
-        next = put_record(output, next, record_at(file, at, *k));
+        next = put_record(output, next, record_at(o.file, o.head.records_at, *k));
     }
 }

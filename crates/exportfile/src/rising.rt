@@ -4,6 +4,7 @@ ghost use Rattle.exchange.specs.Import.{job_before};
 ghost use Rattle.exportfile.specs.LinesOf.{rises_at};
 
 use model::Record;
+use openfile::OpenFile;
 use runfile::record_at;
 
 // Whether a record goes before another: by task, then by job.
@@ -13,11 +14,11 @@ fn goes_before(x: Record, y: Record) -> bool
     (x.task, x.job) < (y.task, y.job)
 }
 
-// Whether each of the n records that begin at a place goes before the next.
-pub(crate) fn records_rise(file: &[u8], at: u32, n: u32) -> bool
-    ensures { result ≡ rises_at file.now at n }
+// Whether each of the records of a file goes before the next.
+pub(crate) fn records_rise(o: OpenFile) -> bool
+    ensures { result ≡ rises_at o.entry.file.now o.entry.head.records_at o.entry.head.records }
 {
-    (0..n)
-        .map(|k| record_at(file, at, k))
+    (0..o.head.records)
+        .map(|k| record_at(o.file, o.head.records_at, k))
         .is_sorted_by(|x, y| goes_before(*x, *y))
 }

@@ -15,32 +15,19 @@ ghost use Rattle.idle.specs.Idle.{idle_in};
 
 use running::Records;
 use table::{FEW, MOST};
-use until::{all_begun, idle_until};
-use wait::first_idle;
 
 // Rule 8, with room for the instants of so many records.
-fn idle_over<const ROOM: usize>(
-    cores: u32,
-    ready: &[u32],
-    records: Records<'_>,
-) -> Option<(u32, (u32, u32))>
-    requires { (cores ≤ most_cores) × Columns most_records records.start.now (ready.now ∷ []) × (length records.start.now ≤ ROOM) × (ROOM ≤ most_records) }
+fn idle_over<const ROOM: usize>(ready: &[u32], records: Records<'_>) -> Option<(u32, (u32, u32))>
+    requires { Columns most_records records.start.now (ready.now ∷ []) × (length records.start.now ≤ ROOM) × (ROOM ≤ most_records) }
     ensures { result
-        ≡ first_of (idle_in records.entry.start.now records.entry.end.now records.entry.core.now cores ready.now)
+        ≡ first_of (idle_in records.entry.start.now records.entry.end.now records.entry.core.now records.entry.cores ready.now)
         0 (length records.entry.start.now) }
 {
     let mut until = [0u32; ROOM];
-    idle_until(records, cores, &mut until);
-    let begun = all_begun(records, cores);
+    records.idle_until(&mut until);
+    let begun = records.all_begun();
     for a in 0..ready.len() {
-        if let Some((t, c)) = first_idle(
-            records,
-            cores,
-            ready[a],
-            records.start[a],
-            begun,
-            &until,
-        ) {
+        if let Some((t, c)) = records.first_idle(ready[a], records.start[a], begun, &until) {
             return Some((a as u32, (t, c)));
         }
     }
@@ -59,10 +46,15 @@ pub fn idle_place(
     ensures { result
         ≡ first_of (idle_in start.now end.now core.now cores ready.now) 0 (length start.now) }
 {
-    let records = Records { start, end, core };
+    let records = Records {
+        cores,
+        start,
+        end,
+        core,
+    };
     if start.len() <= FEW {
-        idle_over::<FEW>(cores, ready, records)
+        idle_over::<FEW>(ready, records)
     } else {
-        idle_over::<MOST>(cores, ready, records)
+        idle_over::<MOST>(ready, records)
     }
 }

@@ -7,12 +7,14 @@ ghost use Rattle.idle.specs.Idle.{Runs, busy_in, idle_core_in, BusyFrom};
 
 use crate::instant::{NEVER, first_within};
 
-// Where and when the records run: their starts, ends and cores, side by side.
+// Where and when the records run: the number of cores, and their starts, ends and cores, side by side.
 #[derive(Clone, Copy)]
 pub(crate) struct Records<'a> {
+    pub(crate) cores: u32,
     pub(crate) start: &'a [u32],
     pub(crate) end: &'a [u32],
     pub(crate) core: &'a [u32],
+    ghost few: { cores ≤ most_cores },
     ghost beside: { Beside start.now (end.now ∷ core.now ∷ []) },
 }
 
@@ -34,11 +36,10 @@ impl<'a> Records<'a> {
     }
 
     // The least core that idles at t.
-    pub(crate) fn idle_core(self, cores: u32, t: u32) -> Option<u32>
-        requires { cores ≤ most_cores }
-        ensures { result ≡ idle_core_in self.entry.start.now self.entry.end.now self.entry.core.now cores t }
+    pub(crate) fn idle_core(self, t: u32) -> Option<u32>
+        ensures { result ≡ idle_core_in self.entry.start.now self.entry.end.now self.entry.core.now self.entry.cores t }
     {
-        (1..=cores).find(|&c| !self.busy(c, t))
+        (1..=self.cores).find(|&c| !self.busy(c, t))
     }
 
     // The first instant from t on at which core c is busy. What is read is handed on as it is: the pass then takes several records at once.

@@ -19,30 +19,31 @@ fn least_idle(from: u32, end: &[u32], until: &[u32]) -> u32
     least
 }
 
-// The least instant of a wait at which a core idles, and that core. Where some core has not begun yet, it idles at the wait's first instant;
-// else each core that idles does so after the end of a record.
-pub(crate) fn first_idle(
-    records: Records<'_>,
-    cores: u32,
-    from: u32,
-    to: u32,
-    begun: u32,
-    until: &[u32],
-) -> Option<(u32, u32)>
-    requires { Prepared records.start.now records.end.now records.core.now cores begun until.now }
-    ensures { result
-        ≡ first_of (idle_core_in records.entry.start.now records.entry.end.now records.entry.core.now cores) from (to - from) }
-{
-    if to <= from {
-        return None;
+impl<'a> Records<'a> {
+    // The least instant of a wait at which a core idles, and that core. Where some core has not begun yet, it idles at the wait's first
+    // instant; else each core that idles does so after the end of a record.
+    pub(crate) fn first_idle(
+        self,
+        from: u32,
+        to: u32,
+        begun: u32,
+        until: &[u32],
+    ) -> Option<(u32, u32)>
+        requires { Prepared self.start.now self.end.now self.core.now self.cores begun until.now }
+        ensures { result
+            ≡ first_of (idle_core_in self.entry.start.now self.entry.end.now self.entry.core.now self.entry.cores) from (to - from) }
+    {
+        if to <= from {
+            return None;
+        }
+        let least = if begun <= from {
+            least_idle(from, self.end, until)
+        } else {
+            from
+        };
+        if to <= least {
+            return None;
+        }
+        self.idle_core(least).map(|c| (least, c))
     }
-    let least = if begun <= from {
-        least_idle(from, records.end, until)
-    } else {
-        from
-    };
-    if to <= least {
-        return None;
-    }
-    records.idle_core(cores, least).map(|c| (least, c))
 }

@@ -19,7 +19,7 @@ pub extern "C" fn octalmure_carry(
         × (answer.new ≡ (carry_call file.now horizon output.old answer.old).answer) }
 {
     if answer.len() < ANSWER_SIZE {
-        return 4;
+        return crate::REFUSED;
     }
     let told = carry_file(file, horizon, output);
     write_answer(told, answer)

@@ -12,7 +12,7 @@ pub extern "C" fn octalmure_check(file: &[u8], answer: &mut [u8]) -> u32
         × (answer.new ≡ (check_call file.now answer.old).answer) }
 {
     if answer.len() < ANSWER_SIZE {
-        return 4;
+        return crate::REFUSED;
     }
     let told = check_file(file);
     write_answer(told, answer)

@@ -14,7 +14,7 @@ pub extern "C" fn octalmure_export(file: &[u8], output: &mut [u8], answer: &mut 
         × (answer.new ≡ (export_call file.now output.old answer.old).answer) }
 {
     if answer.len() < ANSWER_SIZE {
-        return 4;
+        return crate::REFUSED;
     }
     let told = export_file(file, output);
     write_answer(told, answer)

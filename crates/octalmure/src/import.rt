@@ -19,7 +19,7 @@ pub extern "C" fn octalmure_import(
         × (answer.new ≡ (import_call file.now table.now output.old answer.old).answer) }
 {
     if answer.len() < ANSWER_SIZE {
-        return 4;
+        return crate::REFUSED;
     }
     let told = import_file(file, table, output);
     write_answer(told, answer)

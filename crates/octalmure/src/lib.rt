@@ -13,3 +13,6 @@ pub use check::octalmure_check;
 pub use export::octalmure_export;
 pub use import::octalmure_import;
 pub use why::octalmure_why;
+
+// The number of the answer that something is refused.
+const REFUSED: u32 = 4;

@@ -14,7 +14,7 @@ pub extern "C" fn octalmure_why(file: &[u8], k: u32, output: &mut [u8], answer: 
         × (answer.new ≡ (why_call file.now k output.old answer.old).answer) }
 {
     if answer.len() < ANSWER_SIZE {
-        return 4;
+        return crate::REFUSED;
     }
     let told = why_file(file, k, output);
     write_answer(told, answer)

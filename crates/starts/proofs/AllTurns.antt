@@ -23,7 +23,8 @@ use Rattle.table.specs.Table.{Sized, Lent, columns, column_of}
 use Rattle.table.proofs.LentLaws.{number_of}
 use Rattle.starts.specs.Opened.{Opened}
 use Rattle.starts.specs.Choice.{HasTurn, Chosen}
-use Rattle.starts.specs.Cores.{Lasts, LeastOf, Takes}
+use Rattle.starts.specs.Cores.{Lasts, LeastOf}
+use Rattle.starts.specs.CoreGiven.{Takes}
 use Rattle.starts.specs.declared.cores.Cores.{Cores}
 use Rattle.starts.proofs.State.{core_of}
 use Rattle.starts.proofs.LastEnds.{Ends, ends_of, ends_then}
@@ -39,16 +40,16 @@ left_is {σ} {t} {n} L =
     count_same (λ k. eqb (get_or t (5 * n + k) 0) 0) (not_begun σ) n (λ k h. ap (λ c. eqb c 0) (L.number 5 k (omega arith) h))
     ∙ ap (count (not_begun σ)) L.count
 
--- The carry of σ₀ from H on has come to a run with this table at instant v; and the last ends on its N cores are known.
-pub record Reached (σ₀ : Run) (H N : ℕ) (t : List ℕ) (n : ℕ) (T : Cores) (v : ℕ) : Type 0 where
+-- The carry of σ₀ from H on has come to a run with this table at instant v; and the last ends on its cores are known.
+pub record Reached (σ₀ : Run) (H : ℕ) (t : List ℕ) (n : ℕ) (T : Cores) (v : ℕ) : Type 0 where
   pub run : Run
   pub jobs_left : ℕ
   pub going : Going σ₀ H most_time jobs_left v run
   pub table : Lent columns run t n
   pub jobs : Jobs run
-  pub cores : N ≡ run.setting.cores
+  pub cores : T.n ≡ run.setting.cores
   pub ends : Ends run T.ends
-  pub least : LeastOf T.ends (N + 1) T.least
+  pub least : LeastOf T.ends (T.n + 1) T.least
 
 -- Before the first turn
 -- ---------------------
@@ -75,25 +76,22 @@ module _ {ρ : Run} {H' N H : ℕ} {t : List ℕ} {n : ℕ} (X : Opened ρ H' N 
             omega (arith, going.inv.cores k (omega (arith, X.table.count)), X.table.limits.setting.cores)
         go (no h) = omega (arith, get_or-eq_default cs 0 {n = k} (omega (arith, h)))
 
-    pub reached_first : {T : Cores} → Lasts (length cs) cs es T.ends → LeastOf T.ends (N + 1) T.least → Reached (opening ρ H') H N t n T H
-    reached_first L F =
+    pub reached_first : {T : Cores} → T.n ≡ N → Lasts (length cs) cs es T.ends → LeastOf T.ends (T.n + 1) T.least → Reached (opening ρ H') H t n T H
+    reached_first few L F =
         record {
           run = σ;
           jobs_left = waiting σ;
           going = going;
           table = X.table;
           jobs = opening_jobs ρ H';
-          cores = cores_then;
+          cores = few ∙ cores_then;
           ends = ends_of X.table ends on long L;
           least = F;
         }
 
 -- From turn to turn
 -- -----------------
-module _ {σ₀ : Run} {H N : ℕ} {t : List ℕ} {n : ℕ} {T : Cores} {v : ℕ} (R : Reached σ₀ H N t n T v) where
-  pub some_cores : (1 ≤ N) × (N ≤ most_cores)
-  some_cores = omega (arith, R.cores, R.table.limits.setting.cores)
-
+module _ {σ₀ : Run} {H : ℕ} {t : List ℕ} {n : ℕ} {T : Cores} {v : ℕ} (R : Reached σ₀ H t n T v) where
   module _ {u k : ℕ} (C : Chosen n (max v T.least) (column_of n t 5) (column_of n t 1) (column_of n t 12) (column_of n t 11) u k) where
     time : get_or t (9 * n + k) 0 ≡ (task_of R.run k).greatest
     time = number_of R.table 9 k (9 * n + k) (omega arith) C.range refl
@@ -105,10 +103,10 @@ module _ {σ₀ : Run} {H N : ℕ} {t : List ℕ} {n : ℕ} {T : Cores} {v : ℕ
         let f = turn_fits R.going R.table R.jobs R.cores R.ends R.least C in
         (C.range, R.table.sized, omega (arith, time))
 
-    pub core_free : (d : ℕ) × (1 ≤ d) × (d ≤ N) × (get_or T.ends d 0 ≤ u)
+    pub core_free : (d : ℕ) × (1 ≤ d) × (d ≤ T.n) × (get_or T.ends d 0 ≤ u)
     core_free = let F = R.least in (F.core, F.core_is.0, omega (arith, F.core_is.1), omega (arith, F.here, C.at))
 
-    module _ {T' : Cores} {c : ℕ} (K : Takes T.ends N u (u + get_or t (9 * n + k) 0) c T') {t' : List ℕ}
+    module _ {T' : Cores} {c : ℕ} (K : Takes T.ends T.n u (u + get_or t (9 * n + k) 0) c T') {t' : List ℕ}
         (put : (σ : Run) → Jobs σ → Lent columns σ t n → u + get_or t (9 * n + k) 0 ≡ u + (task_of σ k).greatest → Lent columns (starts σ u k c) t' n) where
       ends : u + get_or t (9 * n + k) 0 ≡ u + (task_of R.run k).greatest
       ends = ap (λ x. u + x) time
@@ -116,7 +114,7 @@ module _ {σ₀ : Run} {H N : ℕ} {t : List ℕ} {n : ℕ} {T : Cores} {v : ℕ
       table_then : Lent columns (starts R.run u k c) t' n
       table_then = put R.run R.jobs R.table ends
 
-      pub reached_on : Reached σ₀ H N t' n T' u
+      pub reached_on : Reached σ₀ H t' n T' u
       reached_on =
           let (m, e, G) = turn R.going R.table R.jobs R.cores R.ends R.least C K in
           record {
@@ -125,12 +123,12 @@ module _ {σ₀ : Run} {H N : ℕ} {t : List ℕ} {n : ℕ} {T : Cores} {v : ℕ
             going = G;
             table = table_then;
             jobs = rule1_stays R.run u k c (task_of R.run k).greatest R.jobs;
-            cores = R.cores;
+            cores = K.count ∙ R.cores;
             ends =
                 rw (K.ends, ends)
                 (ends_then R.run u k c (chosen_record R.jobs R.table C) (chosen_waits R.jobs R.table C) R.ends K.core.0
-                (omega (arith, K.core.1, some_cores)) K.free);
-            least = K.least;
+                (omega (arith, K.core.1, T.range)) K.free);
+            least = rw K.count K.least;
           }
 
       -- one job fewer is left
@@ -154,7 +152,7 @@ module _ {σ₀ : Run} {H N : ℕ} {t : List ℕ} {n : ℕ} {T : Cores} {v : ℕ
 
 -- From the table of what stands at H, of whatever run, the carry has come to the present one.
 pub record Comes (N H : ℕ) (t₀ : List ℕ) (n : ℕ) (t : List ℕ) (T : Cores) (v : ℕ) : Type 0 where
-  pub reached : (ρ : Run) (H' : ℕ) → Opened ρ H' N H t₀ n → Reached (opening ρ H') H N t n T v
+  pub reached : (ρ : Run) (H' : ℕ) → Opened ρ H' N H t₀ n → Reached (opening ρ H') H t n T v
 
 pub comes_done : {N H : ℕ} {t₀ : List ℕ} {n : ℕ} {t : List ℕ} {T : Cores} {v : ℕ} → Comes N H t₀ n t T v
     → ((j : ℕ) → j < n → ¬ HasTurn (column_of n t 5) (column_of n t 1) j)

@@ -16,7 +16,8 @@ use Rattle.model.proofs.Places.{idle_core_finds}
 use Rattle.carrytheory.proofs.StartChanges.{is_record, still_record, here, elsewhere}
 use Rattle.carrytheory.proofs.NextInstant.{LastEnd, LeastFree}
 use Rattle.table.specs.Table.{Lent, columns, column_of}
-use Rattle.starts.specs.Cores.{EndsAt, LastOf, Lasts, LeastOf, Takes}
+use Rattle.starts.specs.Cores.{EndsAt, LastOf, Lasts, LeastOf}
+use Rattle.starts.specs.CoreGiven.{Takes}
 use Rattle.starts.specs.declared.cores.Cores.{Cores}
 use Rattle.starts.proofs.Taking.{at_set}
 use Rattle.starts.proofs.State.{end_of, core_of}

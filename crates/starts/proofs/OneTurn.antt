@@ -21,7 +21,8 @@ use Rattle.carrytheory.proofs.Begin.{Going}
 use Rattle.carrytheory.proofs.NextInstant.{ready_fits, starts_there}
 use Rattle.table.specs.Table.{Lent, columns, column_of}
 use Rattle.starts.specs.Choice.{NoLater, HasTurn, Chosen}
-use Rattle.starts.specs.Cores.{LeastOf, Takes}
+use Rattle.starts.specs.Cores.{LeastOf}
+use Rattle.starts.specs.CoreGiven.{Takes}
 use Rattle.starts.specs.declared.cores.Cores.{Cores}
 use Rattle.starts.proofs.State.{job_of_lem, core_of, rank_of, ready_of}
 use Rattle.starts.proofs.LastEnds.{Ends, least_free, idle_core_lem}

@@ -1,8 +1,7 @@
--- The cores' last ends, and the core that is taken.
-use Rattle.std.specs.Prelude.{ℕ, ◌+◌, ◌≤◌, ◌<◌, ◌≡◌, ◌⊎◌, List, [], ◌∷◌, length, get_or, set}
+-- The cores' last ends, and the least of them.
+use Rattle.std.specs.Prelude.{ℕ, ◌+◌, ◌≤◌, ◌<◌, ◌≡◌, ◌⊎◌, List, [], ◌∷◌, length, get_or}
 use Rattle.base.specs.Columns.{Beside}
 use Rattle.model.specs.Model.{most_cores}
-use Rattle.starts.specs.declared.cores.Cores.{Cores}
 
 -- ends, and the cores on which: none above the most
 pub record Ran (es cs : List ℕ) : Type 0 where
@@ -29,11 +28,3 @@ pub record LeastOf (xs : List ℕ) (m f : ℕ) : Type 0 where
   pub core_is : (1 ≤ core) × (core < m)
   pub here : get_or xs core 0 ≡ f
   pub least : (d : ℕ) → 1 ≤ d → d < m → f ≤ get_or xs d 0
-
--- The lowest of the cores 1 to n that is free at t, core c, is taken until e.
-pub record Takes (xs : List ℕ) (n t e c : ℕ) (s : Cores) : Type 0 where
-  pub core : (1 ≤ c) × (c ≤ n)
-  pub ends : s.ends ≡ set xs c e
-  pub free : get_or xs c 0 ≤ t
-  pub lowest : (d : ℕ) → 1 ≤ d → d < c → t < get_or xs d 0
-  pub least : LeastOf s.ends (n + 1) s.least

@@ -1,3 +1,4 @@
 pub mod Opened
 pub mod Choice
 pub mod Cores
+pub mod CoreGiven

@@ -13,7 +13,7 @@ ghost use Rattle.starts.specs.Opened.{Opened};
 ghost use Rattle.table.specs.Table.{Lent, Sized, columns, column_of};
 
 use choose::choose;
-use cores::{free_cores, take_core};
+use cores::Cores;
 use table::{CORE, END, GREATEST, JOB, RANK, READY, RELEASE, START, column, put_row};
 
 // The job of a table that starts first from v on, and when.
@@ -48,12 +48,12 @@ pub fn start_all(cores: u32, horizon: u32, t: &mut [u32], n: usize)
     requires { (ρ : Run) × (H' : ℕ) × Opened ρ H' cores horizon t.old n }
     ensures { (ρ : Run) (H' : ℕ) → Opened ρ H' cores horizon t.old n → Lent columns (carried ρ H') t.new n }
 {
-    let mut free = free_cores(cores, column(t, n, END), column(t, n, CORE));
+    let mut free = Cores::new(cores, column(t, n, END), column(t, n, CORE));
     let mut at = horizon;
     while let Some((start, job)) = next_job(at.max(free.least), t, n) {
         let k = job as usize;
         let end = start + t[GREATEST * n + k];
-        let core = take_core(&mut free, cores, start, end);
+        let core = free.take(start, end);
         put_start(t, n, k, start, end, core);
         at = start;
     }

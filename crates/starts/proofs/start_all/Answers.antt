@@ -5,7 +5,7 @@ use native.Mathlib.Omega.{arith}
 use Rattle.model.specs.Carry.{opening}
 use Rattle.table.specs.Table.{column_of}
 use Rattle.starts.specs.Choice.{Chosen}
-use Rattle.starts.proofs.AllTurns.{Reached, on_core, reached_first, some_cores, in_table, core_free, reached_on, fewer_left, comes_done}
+use Rattle.starts.proofs.AllTurns.{Reached, on_core, reached_first, in_table, core_free, reached_on, fewer_left, comes_done}
 use Rattle.starts.proofs.start_all.Goals as goal
 use Rattle.starts.proofs.start_all.Goals.{In-Some}
 
@@ -21,11 +21,11 @@ found c = rw c.max.ensures at (c.next_job.ensures.chosen _ _ c.in-Some.is)
 reached : (c : In-Some)
     → let a = c.args in
     let p = c.requires in
-    Reached (opening p.0 p.1) a.horizon a.cores c.loop-start.t a.n c.loop-start.free c.loop-start.at
+    Reached (opening p.0 p.1) a.horizon c.loop-start.t a.n c.loop-start.free c.loop-start.at
 reached c = let p = c.requires in c.loop-start.invariant.reached p.0 p.1 p.2
 
-pub free_cores-free-requires : goal.free_cores-free-requires
-free_cores-free-requires c =
+pub new-free-requires : goal.new-free-requires
+new-free-requires c =
     let X = c.requires.2 in
     let end = c.column.ensures in
     let core = c.column-2.ensures in (
@@ -38,8 +38,8 @@ pub loop-start-init : goal.loop-start-init
 loop-start-init c =
     let end = c.column.ensures in
     let core = c.column-2.ensures in
-    let free = c.free_cores-free.ensures in
-    record { reached = λ ρ H' X. reached_first X end.0 core.0 core.1 free.0 free.1 }
+    let free = c.new-free.ensures in
+    record { reached = λ ρ H' X. reached_first X end.0 core.0 core.1 free.0 free.1 free.2 }
 
 pub bounds-t-n : goal.bounds-t-n
 bounds-t-n c = let s = (goal.at.bounds-t-n c).In-Some in omega (arith, in_table (reached s) (found s))
@@ -47,11 +47,10 @@ bounds-t-n c = let s = (goal.at.bounds-t-n c).In-Some in omega (arith, in_table 
 pub overflow_add-end-in-Some : goal.overflow_add-end-in-Some
 overflow_add-end-in-Some c = let s = (goal.at.overflow_add-end-in-Some c).In-Some in omega (arith, in_table (reached s) (found s))
 
-pub take_core-core-requires : goal.take_core-core-requires
-take_core-core-requires c =
-    let s = (goal.at.take_core-core-requires c).In-Some in
-    let R = reached s in
-    ((some_cores R).0, (some_cores R).1, core_free R (found s))
+pub take-core-requires : goal.take-core-requires
+take-core-requires c =
+    let s = (goal.at.take-core-requires c).In-Some in
+    core_free (reached s) (found s)
 
 pub put_start-requires : goal.put_start-requires
 put_start-requires c =
@@ -62,13 +61,13 @@ put_start-requires c =
 pub loop-start-smaller : goal.loop-start-smaller
 loop-start-smaller c =
     let s = (goal.at.loop-start-smaller c).In-Some in
-    fewer_left (reached s) (found s) c.take_core-core.ensures c.put_start.ensures
+    fewer_left (reached s) (found s) c.take-core.ensures c.put_start.ensures
 
 pub loop-start-preserved : goal.loop-start-preserved
 loop-start-preserved c =
     let s = (goal.at.loop-start-preserved c).In-Some in
     record {
-      reached = λ ρ H' X. reached_on (c.loop-start.invariant.reached ρ H' X) (found s) c.take_core-core.ensures c.put_start.ensures;
+      reached = λ ρ H' X. reached_on (c.loop-start.invariant.reached ρ H' X) (found s) c.take-core.ensures c.put_start.ensures;
     }
 
 pub returns : goal.returns

@@ -15,8 +15,8 @@ write_lines-requires c =
     let a = c.args in
     let filled = c.fill_starts in
     let sorted = c.sort_by.ensures.0 ∙ ap (by_key filled.new.keys) c.requires.0.beside.0 ∙ start_order_lem _ _ filled.ensures in
-    let same = ap (λ o. length (table_by a.file.now a.at o)) sorted in
-    omega (arith, same, order_size a.file.now a.at (length a.keys.now), c.requires.1)
+    let same = ap (λ o. length (table_by a.o.file.now a.o.head.records_at o)) sorted in
+    omega (arith, same, order_size a.o.file.now a.o.head.records_at (length a.keys.now), c.requires.1)
 
 pub returns : goal.returns
 returns c =
@@ -24,4 +24,4 @@ returns c =
     let filled = c.fill_starts in
     let sorted = c.sort_by.ensures.0 ∙ ap (by_key filled.new.keys) c.requires.0.beside.0 ∙ start_order_lem _ _ filled.ensures in
     let told = c.write_lines in
-    subst (λ (o : List ℕ). told.new.output ≡ front (table_by a.file.now a.at o) a.output.now) sorted told.ensures
+    subst (λ (o : List ℕ). told.new.output ≡ front (table_by a.o.file.now a.o.head.records_at o) a.output.now) sorted told.ensures

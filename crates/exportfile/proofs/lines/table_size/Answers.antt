@@ -11,20 +11,20 @@ use Rattle.exportfile.proofs.lines.table_size.Goals.{After-sum}
 pub sum-requires-clause-fits : goal.sum-requires-clause-fits
 sum-requires-clause-fits c =
     let a = c.args in
-    let line = line_long a.file.now a.at in
-    let few : sum_by line (range_with_len 0 a.n) < 2 ^ 64 = omega (arith, lines_few a.file.now a.at a.n) in
-    fits_by_from_yields_list line (range_with_len 0 a.n) c.map.result _
-    (YieldsList-from_map _ line (YieldsList-from_range 0 a.n a.n c.map.ensures.source (omega arith)) c.map.ensures.closure (λ x r q k. search (rules, tests))) few
+    let line = line_long a.o.file.now a.o.head.records_at in
+    let few : sum_by line (range_with_len 0 a.o.head.records) < 2 ^ 64 = omega (arith, lines_few a.o.file.now a.o.head.records_at a.o.head.records) in
+    fits_by_from_yields_list line (range_with_len 0 a.o.head.records) c.map.result _
+    (YieldsList-from_map _ line (YieldsList-from_range 0 a.o.head.records a.o.head.records c.map.ensures.source (omega arith)) c.map.ensures.closure (λ x r q k. search (rules, tests))) few
 
-lines_told : (c : After-sum) → c.sum.result ≡ sum_by (line_long c.args.file.now c.args.at) (range_with_len 0 c.args.n)
+lines_told : (c : After-sum) → c.sum.result ≡ sum_by (line_long c.args.o.file.now c.args.o.head.records_at) (range_with_len 0 c.args.o.head.records)
 lines_told c =
     let a = c.args in
-    let line = line_long a.file.now a.at in
-    sum_by_from_yields_List line (range_with_len 0 a.n) c.map.result _ c.sum.ensures.ran
-    (YieldsList-from_map _ line (YieldsList-from_range 0 a.n a.n c.map.ensures.source (omega arith)) c.map.ensures.closure (λ x r q k. search (rules, tests)))
+    let line = line_long a.o.file.now a.o.head.records_at in
+    sum_by_from_yields_List line (range_with_len 0 a.o.head.records) c.map.result _ c.sum.ensures.ran
+    (YieldsList-from_map _ line (YieldsList-from_range 0 a.o.head.records a.o.head.records c.map.ensures.source (omega arith)) c.map.ensures.closure (λ x r q k. search (rules, tests)))
 
 pub overflow_add-result : goal.overflow_add-result
-overflow_add-result c = omega (arith, lines_told c, lines_few c.args.file.now c.args.at c.args.n)
+overflow_add-result c = omega (arith, lines_told c, lines_few c.args.o.file.now c.args.o.head.records_at c.args.o.head.records)
 
 pub returns : goal.returns
-returns c = omega (arith, lines_told c, lines_long c.args.file.now c.args.at c.args.n)
+returns c = omega (arith, lines_told c, lines_long c.args.o.file.now c.args.o.head.records_at c.args.o.head.records)

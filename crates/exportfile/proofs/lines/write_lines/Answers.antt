@@ -13,7 +13,7 @@ use Rattle.exportfile.proofs.lines.write_lines.Goals as goal
 pub put_bytes-next-requires : goal.put_bytes-next-requires
 put_bytes-next-requires c =
     let a = c.args in
-    let size = table_size (map (record_of a.file.now a.at) a.order.now) in
+    let size = table_size (map (record_of a.o.file.now a.o.head.records_at) a.order.now) in
     omega (arith, ap length c.header_line-header.ensures, length-header, size)
 
 pub loop-k-init : goal.loop-k-init
@@ -26,7 +26,7 @@ put_record-next-requires c =
     let loop = c.loop-k in
     let line = ap (λ x. length (record_line x)) c.record_at.ensures in
     let head = rw c.header_line-header.ensures at c.put_bytes-next.ensures in
-    omega (arith, loop.invariant, head, length-header, line, line_fits a.file.now a.at a.order.now loop.k-index (omega arith))
+    omega (arith, loop.invariant, head, length-header, line, line_fits a.o.file.now a.o.head.records_at a.order.now loop.k-index (omega arith))
 
 pub loop-k-preserved : goal.loop-k-preserved
 loop-k-preserved c =
@@ -35,8 +35,8 @@ loop-k-preserved c =
     let read = c.record_at.ensures in
     let line = ap (λ x. length (record_line x)) read in
     let head = rw c.header_line-header.ensures at c.put_bytes-next.ensures in
-    let fits = line_fits a.file.now a.at a.order.now loop.k-index (omega arith) in
-    wrote_line_on a.file.now a.at a.order.now loop.k-index (omega arith) loop.invariant c.put_record-next.ensures read
+    let fits = line_fits a.o.file.now a.o.head.records_at a.order.now loop.k-index (omega arith) in
+    wrote_line_on a.o.file.now a.o.head.records_at a.order.now loop.k-index (omega arith) loop.invariant c.put_record-next.ensures read
     (omega (arith, loop.invariant, head, length-header, line, fits))
 
 pub returns : goal.returns
@@ -44,4 +44,4 @@ returns c =
     let a = c.args in
     let head = rw c.header_line-header.ensures at c.put_bytes-next.ensures in
     let e : c.loop-k.k-index ≡ length a.order.now = omega arith in
-    wrote_table a.file.now a.at a.order.now head (rw e at c.loop-k.invariant) c.requires
+    wrote_table a.o.file.now a.o.head.records_at a.order.now head (rw e at c.loop-k.invariant) c.requires

@@ -5,4 +5,4 @@ use Rattle.exportfile.specs.LinesOf.{lines_by}
 use Rattle.exportfile.proofs.lines.write_lines.Given as goal
 
 abbrev pub invariant-loop-k : goal.invariant-loop-k
-invariant-loop-k l = Wrote l.initial.output l.initial.next (lines_by l.file l.at (take l.k-index l.order)) l.output l.next
+invariant-loop-k l = Wrote l.initial.output l.initial.next (lines_by l.o.file.now l.o.head.records_at (take l.k-index l.order)) l.output l.next

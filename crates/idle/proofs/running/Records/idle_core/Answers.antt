@@ -14,4 +14,4 @@ unfolding idle_core_in
 returns c =
     let a = c.args in
     let p = λ (k : ℕ). not (busy_in a.self.start.now a.self.end.now a.self.core.now k a.t) in
-    sym (option_map_id _) ∙ find_from_yields_List p _ _ _ c.find.ensures.ran (YieldsList-from_inclusive _) (λ x b q h. search rules) ∙ rw (numbers_from_one c.new.result a.cores c.new.ensures.start c.new.ensures.end c.new.ensures.exhausted) (find_first p a.cores 1)
+    sym (option_map_id _) ∙ find_from_yields_List p _ _ _ c.find.ensures.ran (YieldsList-from_inclusive _) (λ x b q h. search rules) ∙ rw (numbers_from_one c.new.result a.self.cores c.new.ensures.start c.new.ensures.end c.new.ensures.exhausted) (find_first p a.self.cores 1)

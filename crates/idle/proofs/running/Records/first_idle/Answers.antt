@@ -6,14 +6,14 @@ use borrow.Author.Rules.{rules}
 use native.Mathlib.Omega.{arith}
 use Rattle.base.proofs.Loop.{nothing_yet, first_of_miss}
 use Rattle.idle.proofs.Idle.{IdleFrom, all_begun, not_begun_lem, none_idles, idles_at}
-use Rattle.idle.proofs.wait.first_idle.Goals as goal
-use Rattle.idle.proofs.wait.first_idle.Goals.{Joined-begun-from, then-begun-from, else-begun-from}
+use Rattle.idle.proofs.running.Records.first_idle.Goals as goal
+use Rattle.idle.proofs.running.Records.first_idle.Goals.{Joined-begun-from, then-begun-from, else-begun-from}
 
 -- where the two ways join, the instant is the first from the wait's first on at which a core idles
 abbrev Least : Joined-begun-from → Type 0
 Least c =
     let a = c.args in
-    IdleFrom a.records.start.now a.records.end.now a.records.core.now a.cores a.from c.if-begun-from.least
+    IdleFrom a.self.start.now a.self.end.now a.self.core.now a.self.cores a.from c.if-begun-from.least
 
 least : (c : Joined-begun-from) → Least c
 least c =
