@@ -2,10 +2,10 @@
 use Prim.Native.Nat.{ℕ, suc, ◌+◌, ◌*◌, ◌%◌, ◌^◌, ◌≤◌, ◌<◌}
 use mathlib.Core.Path.{◌≡◌, refl, sym, ◌∙◌, ap, subst}
 use mathlib.Core.List.{List, [], ◌∷◌}
-use native.Mathlib.Nat.{mul_comm, mul-suc}
+use native.Mathlib.Nat.{lt_of_le_of_lt, mul_comm, mul-suc}
 use native.Mathlib.Omega.{arith}
 use lib.Arith.{digits_lt}
-use lib.Bits.{bit_or, or_shifted_r}
+use lib.Bits.{bit_and, bit_or, and_le_r, or_shifted_r}
 use lib.ListN.{length}
 use lib.Pow.{pow-add, shl_exact}
 
@@ -33,3 +33,7 @@ joined_is_sum w n k low (d ∷ ds) l (h, hs) fits =
     let added : bit_or low (d * 2 ^ k % 2 ^ n) ≡ low + 2 ^ k * d =
     ap (bit_or low) (shl_exact {a = d} w k n h (omega arith)) ∙ or_shifted_r d k low l ∙ omega arith in
     rw added (joined_is_sum w n (w + k) (low + 2 ^ k * d) ds (omega arith) hs (omega arith))
+
+-- what a mask leaves is no greater than the mask
+pub masked : (n m : ℕ) → m < 256 → bit_and n m < 256
+masked n m h = lt_of_le_of_lt (and_le_r n m) h

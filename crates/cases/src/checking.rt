@@ -17,7 +17,7 @@ pub(crate) fn print_answer(output: &mut impl Write, told: Answer) -> io::Result<
 pub(crate) fn refusal_case(output: &mut impl Write, file: &[u8]) -> io::Result<()> {
     match open_file(file) {
         Ok(_) => output.write_all(b"fine\n"),
-        Err(refusal) => print_answer(output, Answer::Refused(refusal)),
+        Err(refusal) => print_answer(output, Answer::from(refusal)),
     }
 }
 

@@ -56,7 +56,7 @@ pub fn write_chain(t: &[u32], n: usize, k: u32, output: &mut [u8]) -> Answer
 {
     let count = why_began(t, n, k, &mut [], 0);
     if output.len() < 4 * count {
-        return Answer::Refused(Refusal::NoRoom);
+        return Answer::from(Refusal::NoRoom);
     }
     why_began(t, n, k, output, 0);
     Answer::Chain(count as u32)

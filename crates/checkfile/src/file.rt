@@ -14,6 +14,6 @@ pub fn check_file(file: &[u8]) -> Answer
 {
     match opened(file) {
         Ok(o) => judge_run(o, tasks_of(o)),
-        Err(refusal) => Answer::Refused(refusal),
+        Err(refusal) => Answer::from(refusal),
     }
 }

@@ -6,6 +6,7 @@ ghost use Rattle.idle.specs.FirstFrom.{FirstFrom};
 ghost use Rattle.idle.specs.Idle.{Runs, busy_in, idle_core_in, BusyFrom};
 
 use crate::instant::{NEVER, first_within};
+use base::sooner;
 
 // Where and when the records run: the number of cores, and their starts, ends and cores, side by side.
 #[derive(Clone, Copy)]
@@ -48,7 +49,10 @@ impl<'a> Records<'a> {
     {
         let mut first = NEVER;
         for k in 0..self.start.len() {
-            first = first.min(runs_from(c, t, self.start[k], self.end[k], self.core[k]));
+            first = sooner(
+                first,
+                runs_from(c, t, self.start[k], self.end[k], self.core[k]),
+            );
         }
         first
     }

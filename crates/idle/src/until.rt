@@ -3,6 +3,7 @@ ghost use Rattle.std.specs.Prelude.{◌+◌, ◌≤◌, length};
 ghost use Rattle.idle.specs.Idle.{IdleUntil, Untils, Begun};
 
 use crate::running::Records;
+use base::later;
 
 impl<'a> Records<'a> {
     // Until when core c idles from t on; 0 if it is none of the cores.
@@ -32,7 +33,7 @@ impl<'a> Records<'a> {
     {
         let mut begun = 0;
         for c in 1..=self.cores {
-            begun = begun.max(self.busy_from(c, 0));
+            begun = later(begun, self.busy_from(c, 0));
         }
         begun
     }

@@ -6,6 +6,7 @@ ghost use Rattle.idle.specs.Idle.{idle_core_in, Stretches, Prepared};
 
 use crate::instant::{NEVER, first_within};
 use crate::running::Records;
+use base::sooner;
 
 // The first instant from `from` on that lies between the end of a record and the instant until which its core then idles.
 fn least_idle(from: u32, end: &[u32], until: &[u32]) -> u32
@@ -14,7 +15,7 @@ fn least_idle(from: u32, end: &[u32], until: &[u32]) -> u32
 {
     let mut least = NEVER;
     for k in 0..end.len() {
-        least = least.min(first_within(from, end[k], until[k]));
+        least = sooner(least, first_within(from, end[k], until[k]));
     }
     least
 }

@@ -1,95 +1,88 @@
--- Records that a sort by task and job leaves are those of the imported run, and fill its table. Assumes nothing.
+-- An order by key is one by task and job: the records in that order are those of the imported run, and fill its table. Assumes nothing.
 use Prim.Native.Nat.{ℕ, ◌+◌, ◌*◌, ◌<◌}
 use mathlib.Core.Path.{◌≡◌, refl, sym, ◌∙◌, ap, subst}
-use mathlib.Core.Logic.{◌⊎◌, inl, inr}
-use mathlib.Core.Bool.{Bool, true, false, true≢false}
-use mathlib.Core.List.{List, [], ◌∷◌}
+use mathlib.Core.Logic.{inl, inr}
+use mathlib.Core.List.{List}
 use native.Mathlib.Omega.{arith}
-use lib.ListN.{length, get_or}
-use Rattle.std.specs.List.{sum_by, IsDistinct}
-use Rattle.std.specs.List.Sorted.{IsPermutation, IsSortedByKey}
-use Rattle.std.specs.declared.cmp.Ordering.{Ordering}
-use Rattle.std.specs.Ordering.{is_lt, nat_cmp, then_cmp}
-use Rattle.std.proofs.lemmas.Bool.Decides.{nat_tests}
-use Rattle.std.proofs.lemmas.Cmp.{then_total, on_total, nat_cmp_total}
-use Rattle.std.proofs.lemmas.List.Sorted.{ranks_by, sorted_far, sum_by-IsPermutation}
-use Rattle.std.proofs.lemmas.List.Sums.{sum_by-cons}
-use Rattle.std.proofs.lemmas.Map.Keys.{IsDistinct-IsPermutation, IsDistinct-from_apart, apart_from_distinct}
-use Rattle.base.specs.Find.{tally}
-use Rattle.base.proofs.Test.{says_same, says_false}
+use native.Mathlib.Decide.{dec_lt}
+use lib.ListN.{length, get_or, length-map}
+use Rattle.std.proofs.lemmas.List.{get_or-map}
+use Rattle.base.specs.Fill.{Fills}
 use Rattle.model.specs.declared.record.Record.{Record}
-use Rattle.model.specs.Model.{Run, Job, job_of, same_job, no_record}
-use Rattle.model.proofs.RuleTests.{says_same_job}
 use Rattle.model.specs.declared.task.Task.{Task}
+use Rattle.model.specs.Model.{Run, no_record, rec}
 use Rattle.openfile.specs.declared.head.Head.{Head}
 use Rattle.openfile.specs.Head.{Leads}
 use Rattle.openfile.proofs.Leading.{leads_same}
 use Rattle.openfile.proofs.WholeOrRefused.{tells_limits, tells_setting, tells_task_count}
+use Rattle.sorting.specs.Sorted.{SameEntries, Rises, KeyBefore, by_key}
+use Rattle.sorting.proofs.Entries.{same_map, same_length}
+use Rattle.sorting.proofs.Rising.{each_at, rises_at_lem, rises_map}
+use Rattle.sorting.proofs.Sorted.{by_key_same, by_key_rises, order_within}
+use Rattle.sorting.proofs.UpTo.{map_up}
 use Rattle.table.specs.Table.{Lent, recorded, columns}
 use Rattle.table.proofs.LentLaws.{lent_none}
 use Rattle.writing.specs.RunOfTable.{Tabled}
-use Rattle.importfile.specs.Importable.{Importable}
-use Rattle.sorting.proofs.Entries.{same_length}
-use Rattle.sorting.specs.Sorted.{many, SameEntries}
-use Rattle.sorting.proofs.Rising.{rises_at_lem, rises_from}
 use Rattle.exchange.specs.TextTable.{Taken}
 use Rattle.exchange.specs.Import.{JobBefore, imported}
-use Rattle.exchange.proofs.ImportedRun.{imported_only, imported_same, imported_within, job_either}
+use Rattle.exchange.proofs.ImportedRun.{imported_only, imported_same, imported_within}
+use Rattle.importfile.specs.Importable.{key_in, NumbersOf, in_order, Importable}
 
--- a test is passed by as many entries, in whatever order
-entries : {A : Type 0} {xs ys : List A} → IsPermutation xs ys → SameEntries xs ys
-entries {A} {xs} {ys} P =
-    record { counts = λ p. counted p xs ∙ sym (sum_by-IsPermutation (λ x. tally (p x) 0) xs ys P) ∙ sym (counted p ys) }
-  where
-    one_more : (t : Bool) (m n : ℕ) → m ≡ n → tally t m ≡ tally t 0 + n
-    one_more true m n e = omega arith
-    one_more false m n e = omega arith
+-- record k of a run whose records are those of an order
+pub picked : (σ : Run) (xs : List Record) (order : List ℕ) (k : ℕ) → σ.records ≡ in_order xs order → k < length order
+    → rec σ k ≡ get_or xs (get_or order k 0) no_record
+picked σ xs order k e h = ap (λ l. get_or l k no_record) e ∙ get_or-map (λ i. get_or xs i no_record) order k 0 no_record h
 
-    counted : (p : A → Bool) (l : List A) → many p l ≡ sum_by (λ x. tally (p x) 0) l
-    counted p [] = refl
-    counted p (a ∷ l) = one_more (p a) _ _ (counted p l) ∙ sym (sum_by-cons (λ x. tally (p x) 0) a l)
+-- The order by key.
+-- -----------------
+module _ {xs : List Record} (W : Taken xs) {ks keys order : List ℕ} (F : Fills ks 0 (length xs) (key_in xs) keys) (e : order ≡ by_key keys (length xs)) where
+  key_at : (k : ℕ) → k < length xs → get_or keys k 0 ≡ key_in xs k
+  key_at k h = let z : 0 + k ≡ k = omega arith in ap (λ i. get_or keys i 0) (sym z) ∙ F.here k h
 
--- by task, then by job, as the sort compares
-abbrev pub by_job : Job → Job → Ordering
-by_job = then_cmp (λ p q. nat_cmp p.0 q.0) (λ p q. nat_cmp p.1 q.1)
+  -- a smaller key is an earlier job, and no two have one key
+  key_tells : (a c : ℕ) → a < length xs → c < length xs → KeyBefore keys a c → JobBefore (get_or xs a no_record) (get_or xs c no_record)
+  key_tells a c h k (inl l) = go (dec_lt (get_or xs a no_record).task (get_or xs c no_record).task)
+    where
+      go : Dec ((get_or xs a no_record).task < (get_or xs c no_record).task) → JobBefore (get_or xs a no_record) (get_or xs c no_record)
+      go (yes u) = inl u
+      go (no u) =
+          let fa = each_at W.fit a no_record h 1 in
+          let fc = each_at W.fit c no_record k 1 in
+          let p = key_at a h in
+          let q = key_at c k in
+          inr (omega (arith, u), omega (arith, u))
+  key_tells a c h k (inr (e, l)) =
+      let fa = each_at W.fit a no_record h 1 in
+      let fc = each_at W.fit c no_record k 1 in
+      let p = key_at a h in
+      let q = key_at c k in
+      let s : (get_or xs a no_record).task ≡ (get_or xs c no_record).task = omega arith in
+      let t : (get_or xs a no_record).job ≡ (get_or xs c no_record).job = omega arith in
+      absurd (rises_at_lem W.apart a c no_record l k (λ κ. (s κ, t κ)))
 
-less : (x y : Record) → JobBefore x y → is_lt (by_job (job_of x) (job_of y)) ≡ true
-less x y (inl h) = grind (arith, nat_tests)
-less x y (inr (e, h)) = grind (arith, nat_tests)
+  pub numbers_of : NumbersOf xs order
+  numbers_of k h = subst (λ (o : List ℕ). k < length o → get_or o k 0 < length xs) (sym e) (each_at (order_within keys (length xs)) k 0) h
 
--- the one is not less, and of another job
-goes_before : (x y : Record) → is_lt (by_job (job_of y) (job_of x)) ≡ false → ¬ (job_of x ≡ job_of y) → JobBefore x y
-goes_before x y n d = go (job_either x y d)
-  where
-    go : JobBefore x y ⊎ JobBefore y x → JobBefore x y
-    go (inl h) = h
-    go (inr h) = absurd (true≢false (sym (less y x h) ∙ n))
-
-module _ (ρ : Run) {xs ys : List Record} (W : Taken xs) (P : IsPermutation xs ys) (S : IsSortedByKey job_of by_job ys) where
-  -- no two are of one job
-  apart : IsDistinct (λ x y. same_job (job_of x) (job_of y)) ys
-  apart =
-      IsDistinct-IsPermutation _ (λ x y. says_same (says_same_job (job_of x) (job_of y)) (says_same_job (job_of y) (job_of x)) sym sym) xs ys P
-      (IsDistinct-from_apart _ xs (λ i j d h k. says_false (says_same_job _ _) (rises_at_lem W.apart i j d h k)))
-
-  rising : (i j : ℕ) → i < j → j < length ys → JobBefore (get_or ys i no_record) (get_or ys j no_record)
-  rising i j h k =
-      let order = ranks_by (then_total (on_total (λ (q : Job). q.0) nat_cmp_total) (on_total (λ q. q.1) nat_cmp_total)) job_of in
-      goes_before (get_or ys i no_record) (get_or ys j no_record) (sorted_far _ order ys S i j no_record (omega arith) k)
-      ((says_same_job _ _).refutes (apart_from_distinct _ ys i j no_record apart h k))
-
-  pub in_order : (imported ρ xs).records ≡ ys
-  in_order = imported_only ρ xs W ys (rises_from ys no_record rising) (entries P)
+  -- the records of the imported run, in the order
+  pub in_rows : (ρ : Run) → (imported ρ xs).records ≡ in_order xs order
+  in_rows ρ =
+      let n : ℕ = length xs in
+      let pick : ℕ → Record = λ k. get_or xs k no_record in
+      imported_only ρ xs W (in_order xs order)
+      (subst (λ o. Rises JobBefore (in_order xs o)) (sym e) (rises_map pick (order_within keys n) key_tells (by_key_rises keys n)))
+      (subst (λ o. SameEntries xs (in_order xs o)) (sym e)
+      (subst (λ ys. SameEntries ys (in_order xs (by_key keys n))) (map_up xs no_record) (same_map pick (by_key_same keys n))))
 
 -- What is handed on to the file: the run that stands in the table.
 module _ {b : List ℕ} {h : Head} {xs : List Record} {room : ℕ} {ρ : Run} (I : Importable b h xs room ρ) where
-  pub tabled : {ys : List Record} {l : List Task} {t t' : List ℕ} → (imported ρ xs).records ≡ ys → length t ≡ columns * length xs
-      → ((σ : Run) → σ.records ≡ ys → Lent 0 σ t (length ys) → Lent recorded σ t' (length ys)) → Leads ρ l
+  pub tabled : (order : List ℕ) {l : List Task} {t t' : List ℕ} → (imported ρ xs).records ≡ in_order xs order → length t ≡ columns * length xs
+      → ((σ : Run) → σ.records ≡ in_order xs order → Lent 0 σ t (length order) → Lent recorded σ t' (length order)) → Leads ρ l
       → Tabled h h.setting.horizon l t' (length xs) (imported ρ xs)
   unfolding imported
-  tabled {ys} {l} {t} {t'} e long lay L =
-      let many : length xs ≡ length ys = same_length (imported_same ρ xs) ∙ ap length e in
-      let none : Lent 0 (imported ρ xs) t (length ys) = lent_none (imported_within ρ xs I.taken (tells_limits I.tells)) (ap length (sym e)) (omega arith) in
+  tabled order {l} {t} {t'} e long lay L =
+      let count : length (imported ρ xs).records ≡ length order = ap length e ∙ length-map order (λ k. get_or xs k no_record) in
+      let many : length xs ≡ length order = same_length (imported_same ρ xs) ∙ count in
+      let none : Lent 0 (imported ρ xs) t (length order) = lent_none (imported_within ρ xs I.taken (tells_limits I.tells)) (sym count) (omega arith) in
       record {
         setting = sym (tells_setting I.tells);
         task_total = tells_task_count I.tells;

@@ -22,9 +22,9 @@ const NO_RECORD: Record = Record {
 };
 
 // The records of a table that is taken: 11, or the file is written.
-fn import_rows(o: OpenFile, rows: &mut [Record], output: &mut [u8]) -> Result<u32, Refusal>
-    requires { Taken rows.old }
-    ensures { ImportsOf (run_in o.entry.file.now) rows.old output.old (five_written result) output.new }
+fn import_rows(o: OpenFile, rows: &[Record], output: &mut [u8]) -> Result<u32, Refusal>
+    requires { Taken rows.now }
+    ensures { ImportsOf (run_in o.entry.file.now) rows.now output.old (five_written result) output.new }
 {
     let size = size_of(o.head.tasks, rows.len() as u32);
     if output.len() < size {
@@ -41,7 +41,7 @@ fn import(file: &[u8], table: &[u8], output: &mut [u8]) -> Result<u32, Refusal>
     let o = opened(file)?;
     let mut rows = [NO_RECORD; Record::MOST as usize];
     let n = read_lines(table, &mut rows)?;
-    import_rows(o, &mut rows[..n as usize], output)
+    import_rows(o, &rows[..n as usize], output)
 }
 
 // What is said of the import of any table into any file.

@@ -11,32 +11,36 @@ ghost use Rattle.importfile.specs.Importable.{Importable};
 use crate::rows::{lay_out, order_rows};
 use model::Record;
 use openfile::OpenFile;
-use table::{COLUMNS, FEW, FEW_NUMBERS, MOST_NUMBERS};
+use table::{COLUMNS, FEW, FEW_NUMBERS, MOST, MOST_NUMBERS};
 use tasklist::tasks_of;
 use writing::write_run;
 
-// With a table of N numbers.
-fn write_with<const N: usize>(o: OpenFile, rows: &mut [Record], output: &mut [u8])
-    requires { (columns * length rows.old ≤ N) × (N ≤ columns * most_records)
-        × Importable o.file.now o.head rows.old (length output.old) (run_in o.file.now) }
-    ensures { output.new ≡ front (bytes (imported (run_in o.entry.file.now) rows.old)) output.old }
+// With columns for M records, and a table of N numbers.
+fn write_with<const M: usize, const N: usize>(o: OpenFile, rows: &[Record], output: &mut [u8])
+    requires { (length rows.now ≤ M) × (M ≤ most_records) × (columns * length rows.now ≤ N) × (N ≤ columns * most_records)
+        × Importable o.file.now o.head rows.now (length output.old) (run_in o.file.now) }
+    ensures { output.new ≡ front (bytes (imported (run_in o.entry.file.now) rows.now)) output.old }
 {
     let n = rows.len();
+    let mut keys = [0u64; M];
+    let mut places = [0u32; M];
+    let mut spare = [0u32; M];
     let mut numbers = [0u32; N];
+    let order = &mut places[..n];
     let t = &mut numbers[..COLUMNS * n];
-    order_rows(rows);
-    lay_out(rows, t);
+    order_rows(rows, &mut keys[..n], order, &mut spare[..n]);
+    lay_out(rows, order, t);
     write_run(o.head, o.head.setting.horizon, tasks_of(o), t, n, output);
 }
 
-// A small import has a small table.
-pub(crate) fn write_import(o: OpenFile, rows: &mut [Record], output: &mut [u8])
-    requires { Importable o.file.now o.head rows.old (length output.old) (run_in o.file.now) }
-    ensures { output.new ≡ front (bytes (imported (run_in o.entry.file.now) rows.old)) output.old }
+// A small import has small columns and a small table.
+pub(crate) fn write_import(o: OpenFile, rows: &[Record], output: &mut [u8])
+    requires { Importable o.file.now o.head rows.now (length output.old) (run_in o.file.now) }
+    ensures { output.new ≡ front (bytes (imported (run_in o.entry.file.now) rows.now)) output.old }
 {
     if rows.len() <= FEW {
-        write_with::<FEW_NUMBERS>(o, rows, output);
+        write_with::<FEW, FEW_NUMBERS>(o, rows, output);
     } else {
-        write_with::<MOST_NUMBERS>(o, rows, output);
+        write_with::<MOST, MOST_NUMBERS>(o, rows, output);
     }
 }

@@ -93,8 +93,8 @@ abbrev named : ℕ → Five → Answer
 named zero f = InTime
 named (suc zero) f = LateBeforeH f.code f.place.x
 named (suc (suc zero)) f = LateFromH f.code f.place.x
-named (suc (suc (suc zero))) f = RuleBroken (broken_named f.code f.place)
-named (suc (suc (suc (suc zero)))) f = Refused (refusal_named (f.code, f.place.x))
+named (suc (suc (suc zero))) f = RuleBroken f.code f.place.x f.place.y f.place.z
+named (suc (suc (suc (suc zero)))) f = Refused f.code f.place.x
 named (suc (suc (suc (suc (suc zero))))) f = Written f.code
 named (suc (suc (suc (suc (suc (suc n)))))) f = Chain f.code
 
@@ -102,8 +102,8 @@ named_five : (a : Answer) → named (five_of a).answer (five_of a) ≡ a
 named_five InTime = refl
 named_five (LateBeforeH n k) = refl
 named_five (LateFromH n k) = refl
-named_five (RuleBroken b) = ap RuleBroken (broken_named_lem b)
-named_five (Refused r) = ap Refused (refusal_named_lem r)
+named_five (RuleBroken ν x y z) = refl
+named_five (Refused ν i) = refl
 named_five (Written n) = refl
 named_five (Chain n) = refl
 

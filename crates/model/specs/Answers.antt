@@ -82,8 +82,8 @@ abbrev pub five_of : Answer → Five
 five_of InTime = in_time
 five_of (LateBeforeH n k) = late_before_H n k
 five_of (LateFromH n k) = late_from_H n k
-five_of (RuleBroken b) = rule_broken (broken_numbers b).0 (broken_numbers b).1
-five_of (Refused r) = refusal (refusal_numbers r).0 (refusal_numbers r).1
+five_of (RuleBroken ν x y z) = rule_broken ν (record { x = x; y = y; z = z })
+five_of (Refused ν i) = refusal ν i
 five_of (Written n) = bytes_written n
 five_of (Chain n) = chain_written n
 
@@ -92,10 +92,17 @@ abbrev pub numbered : {A : Type 0} → Result A Refusal → Result A (ℕ × ℕ
 numbered (Ok x) = Ok x
 numbered (Err r) = Err (refusal_numbers r)
 
+-- what is said of a broken rule, and of a refusal
+abbrev pub five_broken : Broken → Five
+five_broken b = rule_broken (broken_numbers b).0 (broken_numbers b).1
+
+abbrev pub five_refused : Refusal → Five
+five_refused r = refusal (refusal_numbers r).0 (refusal_numbers r).1
+
 -- what is said where a tool writes: how many bytes, or why not
 abbrev pub five_written : Result ℕ Refusal → Five
 five_written (Ok n) = bytes_written n
-five_written (Err r) = five_of (Refused r)
+five_written (Err r) = five_refused r
 
 -- What a tool that writes says, and what it writes to the front of its output: a refusal writes nothing.
 -- ------------------------------------------------------------------------------------------------------

@@ -19,6 +19,7 @@ use Rattle.openfile.specs.RunTold.{OpensRun}
 use Rattle.model.proofs.Once.{numbered_once}
 use Rattle.openfile.proofs.Tallied.{tallied_once}
 use Rattle.openfile.proofs.judge.open_file.Reads as open_file
+use Rattle.openfile.proofs.opening.opened.Reads as opened
 use Rattle.openfile.proofs.tally.tally_tasks.Reads as tally_tasks
 
 pub open_file_once : Once open_file.Pre open_file.Post (λ r exit. r)
@@ -27,7 +28,7 @@ open_file_once κs args _ r r' exit exit' p q = numbered_once r r' _ p q
 pub tally_tasks_once : Once tally_tasks.Pre tally_tasks.Post (λ r exit. r)
 tally_tasks_once κs args _ r r' exit exit' p q = tallied_once p q
 
--- Of `opened`, whose contract is the relation `OpensRun`: a function over a struct that holds a reference has no module `Reads`.
+-- a file opened
 same_open : {o o' : OpenFile} → o.file ≡ o'.file → o ≡ o'
 same_open {o} {o'} p =
     let h : o.head ≡ o'.head = o.tells.head ∙ ap (λ f. head_of (run_in f.now)) p ∙ sym o'.tells.head in
@@ -45,8 +46,11 @@ same_refusal : {e e' : Refusal}
 unfolding opened_of
 same_refusal {e} {e'} z = let w : ◌≡◌ {A = Result Head Refusal} (Err e) (Err e') = numbered_once (Err e) (Err e') _ (ap opened_of z) refl in cc
 
-pub opened_once : (file : Bor (List ℕ)) (r r' : Result OpenFile Refusal) → OpensRun file r → OpensRun file r' → r ≡ r'
-opened_once file (Ok o) (Ok o') p q = ap Ok (same_open (p ∙ sym q))
-opened_once file (Ok o) (Err e) p q = absurd (told≢refused (sym o.tells.reads ∙ ap (λ f. read f.now) p ∙ q))
-opened_once file (Err e) (Ok o) p q = absurd (told≢refused (sym o.tells.reads ∙ ap (λ f. read f.now) q ∙ p))
-opened_once file (Err e) (Err e') p q = ap Err (same_refusal (sym p ∙ q))
+pub opens_run_once : (file : Bor (List ℕ)) (r r' : Result OpenFile Refusal) → OpensRun file r → OpensRun file r' → r ≡ r'
+opens_run_once file (Ok o) (Ok o') p q = ap Ok (same_open (p ∙ sym q))
+opens_run_once file (Ok o) (Err e) p q = absurd (told≢refused (sym o.tells.reads ∙ ap (λ f. read f.now) p ∙ q))
+opens_run_once file (Err e) (Ok o) p q = absurd (told≢refused (sym o.tells.reads ∙ ap (λ f. read f.now) q ∙ p))
+opens_run_once file (Err e) (Err e') p q = ap Err (same_refusal (sym p ∙ q))
+
+pub opened_once : Once opened.Pre opened.Post (λ r exit. r)
+opened_once κs args _ r r' exit exit' p q = opens_run_once _ r r' p q

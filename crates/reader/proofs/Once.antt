@@ -9,6 +9,8 @@ use Rattle.model.specs.File.{Part}
 use Rattle.reader.specs.LentFile.{IsPart, Opens, Gives}
 use Rattle.reader.specs.declared.Reader.{Reader}
 use Rattle.reader.proofs.starts_of.Reads as starts_of
+use Rattle.reader.proofs.open.Reads as open_fn
+use Rattle.reader.proofs.record.Reads as record_fn
 use Rattle.reader.proofs.part_in.Reads as part_in
 use Rattle.reader.proofs.record_of.Reads as record_of
 use Rattle.reader.proofs.search.is_of.Reads as is_of
@@ -33,11 +35,17 @@ is_of_once κs args _ r r' exit exit' p q = p ∙ sym q
 pub least_record_once : Once least_record.Pre least_record.Post (λ r exit. r)
 least_record_once κs args _ r r' exit exit' p q = p ∙ sym q
 
--- Of `open` and `record`, whose contracts are the relations `Opens` and `Gives`: a reader holds a reference, and such a function has
--- no module `Reads`.
-pub open_once : (file : Bor (List ℕ)) (r r' : Reader) → Opens file r → Opens file r' → r ≡ r'
-open_once file r r' p q =
+-- a reader
+pub opens_once : (file : Bor (List ℕ)) (r r' : Reader) → Opens file r → Opens file r' → r ≡ r'
+opens_once file r r' p q =
     λ κ. record { file = (p.0 ∙ sym q.0) κ; starts = (p.1 ∙ sym q.1) κ }
 
-pub record_once : (r : Reader) (k : ℕ) (s s' : Bor (List ℕ)) → Gives r k s → Gives r k s' → (s.ref_ptr also s.now) ≡ (s'.ref_ptr also s'.now)
-record_once r k s s' = part_once r.file s s' _
+-- a record of it
+pub gives_once : (r : Reader) (k : ℕ) (s s' : Bor (List ℕ)) → Gives r k s → Gives r k s' → (s.ref_ptr also s.now) ≡ (s'.ref_ptr also s'.now)
+gives_once r k s s' = part_once r.file s s' _
+
+pub open_once : Once open_fn.Pre open_fn.Post (λ r exit. r)
+open_once κs args _ r r' exit exit' p q = opens_once args.0 r r' p q
+
+pub record_once : Once record_fn.Pre record_fn.Post (λ r exit. r.ref_ptr also r.now)
+record_once κs args _ r r' exit exit' p q = gives_once args.0 args.1.0 r r' p q

@@ -1,16 +1,11 @@
 -- The job that starts next: what one more job changes of the choice. Assumes nothing.
-use Rattle.std.specs.Prelude.{None, Option, Some, option_map}
-use Prim.Native.Nat.{ℕ, zero, suc, ◌+◌, ◌≤◌, ◌<◌, max}
+use Rattle.std.specs.Prelude.{None, Option, Some}
+use Prim.Native.Nat.{ℕ, ◌+◌, ◌≤◌, ◌<◌, max}
 use mathlib.Core.Path.{◌≡◌, refl, sym, ◌∙◌, subst}
 use mathlib.Core.Logic.{◌⊎◌, inl, inr}
-use mathlib.Core.Bool.{Bool, true, false}
-use mathlib.Core.List.{List, ◌∷◌, map}
-use Rattle.std.specs.List.{filter, fold, reduce, range_with_len}
-use Rattle.std.proofs.Common.{Ordering}
-use Rattle.std.proofs.lemmas.Bool.Decides.{nat_tests}
-use Rattle.std.specs.Ordering.{nat_cmp, ordering_then, min_by_ordering}
+use mathlib.Core.List.{List}
 use native.Mathlib.Omega.{arith}
-use native.Mathlib.Decide.{dec_le, dec_lt}
+use native.Mathlib.Decide.{dec_le}
 use lib.ListN.{get_or}
 use Rattle.base.proofs.Test.{Says, says_eqb, says_and, says_or, says_not}
 use Rattle.base.proofs.Find.{some≢none}
@@ -112,81 +107,3 @@ module _ {v : ℕ} {cs js rs ds : List ℕ} where
           go : (a < u) ⊎ ((a ≡ u) × (get_or ds n 0 < get_or ds k 0)) → NoLater a (get_or ds n 0) n u (get_or ds k 0) k
           go (inl l) = inl l
           go (inr (y, l)) = inr (y, inl l)
-
--- All of them
--- -----------
-
--- of two jobs, each with its instant, its rank and its place, the one that goes first
-abbrev order : ℕ × ℕ × ℕ → ℕ × ℕ × ℕ → Ordering
-order x y = ordering_then (ordering_then (nat_cmp x.0 y.0) (nat_cmp x.1 y.1)) (nat_cmp x.2 y.2)
-
-abbrev pub sooner_of : ℕ × ℕ × ℕ → ℕ × ℕ × ℕ → ℕ × ℕ × ℕ
-sooner_of x y = min_by_ordering (order x y) x y
-
-picks : (u d k a e n : ℕ) → k < n
-    → (sooner_of (u, d, k) (a, e, n) ≡ (u, d, k)) × ((u < a) ⊎ ((u ≡ a) × (d ≤ e)))
-    ⊎ (sooner_of (u, d, k) (a, e, n) ≡ (a, e, n)) × ((a < u) ⊎ ((a ≡ u) × (e < d)))
-picks u d k a e n h = go (dec_lt u a) (dec_lt a u) (dec_lt e d)
-  where
-    go : Dec (u < a) → Dec (a < u) → Dec (e < d) → (sooner_of (u, d, k) (a, e, n) ≡ (u, d, k)) × ((u < a) ⊎ ((u ≡ a) × (d ≤ e)))
-        ⊎ (sooner_of (u, d, k) (a, e, n) ≡ (a, e, n)) × ((a < u) ⊎ ((a ≡ u) × (e < d)))
-    go (yes l) p q = inl (grind (arith, nat_tests), inl l)
-    go (no g) (yes l) q = inr (grind (arith, nat_tests), inl l)
-    go (no g) (no f) (yes l) = inr (grind (arith, nat_tests), inr (omega (arith, f, g), l))
-    go (no g) (no f) (no p) = inl (grind (arith, nat_tests), inr (omega (arith, f, g), omega (arith, p)))
-
-module _ (v : ℕ) (cs js rs ds : List ℕ) where
-  abbrev pub timed : ℕ → ℕ × ℕ × ℕ
-  timed k = (max v (get_or rs k 0), get_or ds k 0, k)
-
-  -- the jobs from place a on whose turn it is
-  abbrev pub left : ℕ → ℕ → List (ℕ × ℕ × ℕ)
-  left a n = map timed (filter (has_turn cs js) (range_with_len a n))
-
-  abbrev pub told : ℕ × ℕ × ℕ → ℕ × ℕ
-  told x = (x.0, x.2)
-
-  left_on : (a n : ℕ) → has_turn cs js a ≡ true → left a (suc n) ≡ timed a ∷ left (a + 1) n
-  left_on a n e = rw e
-
-  left_past : (a n : ℕ) → has_turn cs js a ≡ false → left a (suc n) ≡ left (a + 1) n
-  left_past a n e = rw e
-
-  -- one is chosen of those before place a
-  first_from : (n a u k : ℕ) → Choice a v cs js rs ds (Some (u, k))
-      → Choice (a + n) v cs js rs ds (Some (told (fold sooner_of (u, get_or ds k 0, k) (left a n))))
-  first_from zero a u k C = let e : a + 0 ≡ a = omega arith in rw e C
-  first_from (suc n) a u k C =
-      let e : a + suc n ≡ a + 1 + n = omega arith in
-      rw e (go (first_from n (a + 1)) (has_turn cs js a) refl)
-    where
-      w : ℕ
-      w = max v (get_or rs a 0)
-
-      Then : ℕ × ℕ × ℕ → Type 0
-      Then x = Choice (a + 1 + n) v cs js rs ds (Some (told (fold sooner_of x (left (a + 1) n))))
-
-      go : ((u k : ℕ) → Choice (a + 1) v cs js rs ds (Some (u, k)) → Then (u, get_or ds k 0, k)) → (b : Bool) → has_turn cs js a ≡ b
-          → Choice (a + 1 + n) v cs js rs ds (Some (told (fold sooner_of (u, get_or ds k 0, k) (left a (suc n)))))
-      go next false e = rw (left_past a n e) (next u k (passed C ((says_turn cs js a).refutes e)))
-      go next true e = rw (left_on a n e) (pick (picks u (get_or ds k 0) k w (get_or ds a 0) a (C.chosen u k refl).range))
-        where
-          pick : (sooner_of (u, get_or ds k 0, k) (timed a) ≡ (u, get_or ds k 0, k)) × ((u < w) ⊎ ((u ≡ w) × (get_or ds k 0 ≤ get_or ds a 0)))
-              ⊎ (sooner_of (u, get_or ds k 0, k) (timed a) ≡ timed a) × ((w < u) ⊎ ((w ≡ u) × (get_or ds a 0 < get_or ds k 0)))
-              → Then (sooner_of (u, get_or ds k 0, k) (timed a))
-          pick (inl (q, b)) = rw q (next u k (kept C refl refl b))
-          pick (inr (q, b)) = rw q (next w a (sooner C ((says_turn cs js a).sound e) refl refl b))
-
-  -- none of them waits
-  first_of_all : (n a : ℕ) → Choice a v cs js rs ds None → Choice (a + n) v cs js rs ds (option_map told (reduce sooner_of (left a n)))
-  first_of_all zero a C = let e : a + 0 ≡ a = omega arith in rw e C
-  first_of_all (suc n) a C = let e : a + suc n ≡ a + 1 + n = omega arith in rw e (go (first_of_all n (a + 1)) (has_turn cs js a) refl)
-    where
-      go : (Choice (a + 1) v cs js rs ds None → Choice (a + 1 + n) v cs js rs ds (option_map told (reduce sooner_of (left (a + 1) n))))
-          → (b : Bool) → has_turn cs js a ≡ b → Choice (a + 1 + n) v cs js rs ds (option_map told (reduce sooner_of (left a (suc n))))
-      go next false e = rw (left_past a n e) (next (passed C ((says_turn cs js a).refutes e)))
-      go next true e =
-          rw (left_on a n e) (first_from n (a + 1) (max v (get_or rs a 0)) a (first_waits C ((says_turn cs js a).sound e) refl refl))
-
-  pub chooses : (n : ℕ) {r : Option (ℕ × ℕ × ℕ)} {o : Option (ℕ × ℕ)} → r ≡ reduce sooner_of (left 0 n) → o ≡ option_map told r → Choice n v cs js rs ds o
-  chooses n p q = let e : 0 + n ≡ n = omega arith in rw (q, p) (rw e at (first_of_all n 0 nobody_yet))

@@ -3,6 +3,7 @@ ghost use Rattle.std.specs.Prelude.{◌≡◌, ℕ, ◌+◌, ◌≤◌, length, 
 ghost use Rattle.model.specs.Model.{most_cores};
 ghost use Rattle.starts.specs.Cores.{Ran, Lasts, LeastOf};
 
+use base::later;
 use model::Setting;
 
 // As many entries as there are cores, and one for none.
@@ -24,7 +25,7 @@ fn last_ends(end: &[u32], core: &[u32]) -> [u32; CORES]
 {
     let mut ends = [0u32; CORES];
     for (&c, &e) in core.iter().zip(end) {
-        ends[c as usize] = ends[c as usize].max(e);
+        ends[c as usize] = later(ends[c as usize], e);
     }
     ends
 }

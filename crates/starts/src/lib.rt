@@ -12,12 +12,13 @@ ghost use Rattle.starts.specs.Choice.{Choice};
 ghost use Rattle.starts.specs.Opened.{Opened};
 ghost use Rattle.table.specs.Table.{Lent, Sized, columns, column_of};
 
+use base::later;
 use choose::choose;
 use cores::Cores;
 use table::{CORE, END, GREATEST, JOB, RANK, READY, RELEASE, START, column, put_row};
 
 // The job of a table that starts first from v on, and when.
-fn next_job(v: u32, t: &[u32], n: usize) -> Option<(u32, u32)>
+fn next_job(v: u32, t: &[u32], n: usize) -> Option<(u32, usize)>
     requires { (σ : Run) × Jobs σ × Lent columns σ t.now n }
     ensures { Choice n v (column_of n t.now 5) (column_of n t.now 1) (column_of n t.now 12) (column_of n t.now 11) result }
 {
@@ -38,7 +39,7 @@ fn put_start(t: &mut [u32], n: usize, k: usize, start: u32, end: u32, core: u32)
     put_row(t, n, k, START, &[start, end, core]);
     let next = k + 1;
     if next < n && t[JOB * n + next] != 0 {
-        let ready = t[RELEASE * n + next].max(end);
+        let ready = later(t[RELEASE * n + next], end);
         put_row(t, n, next, READY, &[ready]);
     }
 }
@@ -50,8 +51,7 @@ pub fn start_all(cores: u32, horizon: u32, t: &mut [u32], n: usize)
 {
     let mut free = Cores::new(cores, column(t, n, END), column(t, n, CORE));
     let mut at = horizon;
-    while let Some((start, job)) = next_job(at.max(free.least), t, n) {
-        let k = job as usize;
+    while let Some((start, k)) = next_job(later(at, free.least), t, n) {
         let end = start + t[GREATEST * n + k];
         let core = free.take(start, end);
         put_start(t, n, k, start, end, core);

@@ -12,7 +12,9 @@ use Rattle.model.specs.Model.{no_task}
 use Rattle.model.proofs.Once.{refusal_named, refusal_named_lem}
 use Rattle.tasklist.specs.Stored.{refusal_in, Stores, Decodes}
 use Rattle.tasklist.proofs.planned.Reads as planned
+use Rattle.tasklist.proofs.tasks_of.Reads as tasks_of
 use Rattle.tasklist.proofs.tasks_over.Reads as tasks_over
+use Rattle.tasklist.proofs.decode_tasks.Reads as decode_tasks
 
 -- an answer is a refusal or a count
 abbrev told : Result ℕ Refusal → Option (ℕ × ℕ) × ℕ
@@ -39,12 +41,18 @@ planned_once κs args _ r r' exit exit' p q =
 pub tasks_over_once : Once tasks_over.Pre tasks_over.Post (λ r exit. r)
 tasks_over_once κs args _ r r' exit exit' p q = p ∙ sym q
 
--- Of `decode_tasks`, whose contract is the relation `Stores`: a function over a lent list of tasks has no module `Reads`.
-pub decode_tasks_once : (file : List ℕ) (list after after' : List Task) (r r' : Result ℕ Refusal) → Stores file list after r → Stores file list after' r'
+-- what is stored in a lent list, and what is answered
+pub stores_once : (file : List ℕ) (list after after' : List Task) (r r' : Result ℕ Refusal) → Stores file list after r → Stores file list after' r'
     → (r also after) ≡ (r' also after')
-decode_tasks_once file list after after' r r' p q =
+stores_once file list after after' r r' p q =
     both (stored_once r r' (p.refusal ∙ sym q.refusal) (p.count ∙ sym q.count)) (p.list ∙ sym q.list)
 
--- Of `tasks_of`: a function over a struct that holds a reference has none either.
-pub tasks_of_once : (file : List ℕ) (l l' : List Task) → Decodes file l → Decodes file l' → l ≡ l'
-tasks_of_once file l l' p q = p ∙ sym q
+pub decode_tasks_once : Once decode_tasks.Pre decode_tasks.Post (λ r exit. r also exit.1.0.now)
+decode_tasks_once κs args _ r r' exit exit' p q = stores_once _ _ _ _ r r' p q
+
+-- the tasks of the run that a file tells
+pub decodes_once : (file : List ℕ) (l l' : List Task) → Decodes file l → Decodes file l' → l ≡ l'
+decodes_once file l l' p q = p ∙ sym q
+
+pub tasks_of_once : Once tasks_of.Pre tasks_of.Post (λ r exit. r)
+tasks_of_once κs args _ r r' exit exit' p q = decodes_once _ r r' p q

@@ -7,6 +7,7 @@ ghost use Rattle.model.specs.Rules.{Jobs};
 ghost use Rattle.table.specs.Table.{Sized, Lent, Rows, Loads, recorded};
 ghost use Rattle.times.specs.Times.{begins, up_to, KeptFrom, Listed};
 
+use base::later;
 use model::{TASKS, Task};
 use table::{DUE, EARLIEST, END, JOB, LEAST, RELEASE, put_row};
 
@@ -28,7 +29,7 @@ fn ready_at(t: &[u32], n: usize, k: usize) -> u32
     if t[JOB * n + k] == 0 {
         release
     } else {
-        release.max(t[END * n + k - 1])
+        later(release, t[END * n + k - 1])
     }
 }
 

@@ -25,13 +25,13 @@ fn judge_order(setting: Setting, t: &[u32], n: usize) -> Answer
     ensures { (ρ : Run) → Lent columns ρ t.now n → setting ≡ ρ.setting → Start ρ → five_of result ≡ verdict_from 7 ρ }
 {
     if let Some((a, b)) = out_of_order(t, n) {
-        return Answer::RuleBroken(Broken::Order(a, b));
+        return Answer::from(Broken::Order(a, b));
     }
     if let Some((a, (at, c))) = idling(t, n, setting.cores) {
-        return Answer::RuleBroken(Broken::Idling(a, at, c));
+        return Answer::from(Broken::Idling(a, at, c));
     }
     if let Some(k) = out_of_turn(t, n) {
-        return Answer::RuleBroken(Broken::Turn(k));
+        return Answer::from(Broken::Turn(k));
     }
     timely(
         setting.horizon,
@@ -50,13 +50,13 @@ fn judge_lengths(setting: Setting, tasks: [Task; TASKS], t: &mut [u32], n: usize
     let wrong_length = lasted(t, n);
     let no_core = on_core(t, n, setting.cores);
     if let Some(k) = wrong_length {
-        return Answer::RuleBroken(Broken::Length(k));
+        return Answer::from(Broken::Length(k));
     }
     if let Some(k) = no_core {
-        return Answer::RuleBroken(Broken::Core(k));
+        return Answer::from(Broken::Core(k));
     }
     if let Some((a, b)) = overlapping(t, n) {
-        return Answer::RuleBroken(Broken::Overlap(a, b));
+        return Answer::from(Broken::Overlap(a, b));
     }
     fill_times(Stage::Order, tasks, t, n);
     judge_order(setting, t, n)
@@ -70,14 +70,14 @@ fn judge_table(o: OpenFile, tasks: [Task; TASKS], t: &mut [u32]) -> Answer
     let n = o.head.records as usize;
     read_table(o, t);
     if let Some(k) = jobs_place(o.head, tasks, t) {
-        return Answer::RuleBroken(Broken::Jobs(k));
+        return Answer::from(Broken::Jobs(k));
     }
     fill_times(Stage::Release, tasks, t, n);
     if let Some(k) = released(t, n) {
-        return Answer::RuleBroken(Broken::Release(k));
+        return Answer::from(Broken::Release(k));
     }
     if let Some(k) = started(t, n) {
-        return Answer::RuleBroken(Broken::Start(k));
+        return Answer::from(Broken::Start(k));
     }
     judge_lengths(o.head.setting, tasks, t, n)
 }

@@ -27,6 +27,10 @@ use Rattle.whyfile.specs.ReasonLeft.{Reasons}
 pub says_own : (b : List ℕ) (k : ℕ) (output : List ℕ) (ν i : ℕ) → read b ≡ refused ν i → Reasons b k output (refusal ν i) output
 says_own b k output ν i e = leaves_refused output (why_refused b k (length output) e)
 
+-- an answer with the same five numbers
+pub told_so : (b : List ℕ) (k : ℕ) (output after : List ℕ) (f g : Five) → Reasons b k output f after → g ≡ f → Reasons b k output g after
+told_so b k output after f g R e = subst (λ f. Reasons b k output f after) (sym e) R
+
 module _ {b : List ℕ} {h : Head} {ρ : Run} (T : Tells b h ρ) {t : Bool} (e : t ≡ leb (verdict ρ).answer 2) where
   pub obeys : not t ≡ false → Obeys ρ
   obeys n = (says_obeys ρ).sound (sym e ∙ not-false _ n)

@@ -60,10 +60,10 @@ fn why_run(o: OpenFile, k: u32, output: &mut [u8]) -> Answer
     let accepted = accepts_run(o, tasks_of(o));
     let known = k < o.head.records;
     if !accepted {
-        return Answer::Refused(Refusal::NotAccepted);
+        return Answer::from(Refusal::NotAccepted);
     }
     if !known {
-        return Answer::Refused(Refusal::NoRecord);
+        return Answer::from(Refusal::NoRecord);
     }
     trace_run(o, k, output)
 }
@@ -74,6 +74,6 @@ pub fn why_file(file: &[u8], k: u32, output: &mut [u8]) -> Answer
 {
     match opened(file) {
         Ok(o) => why_run(o, k, output),
-        Err(refusal) => Answer::Refused(refusal),
+        Err(refusal) => Answer::from(refusal),
     }
 }

@@ -30,14 +30,8 @@ pub fn numbers_of(a: Answer) -> [u32; 5]
         Answer::InTime => [0, 0, 0, 0, 0],
         Answer::LateBeforeH(late, record) => [1, late, record, 0, 0],
         Answer::LateFromH(late, record) => [2, late, record, 0, 0],
-        Answer::RuleBroken(broken) => {
-            let [rule, x, y, z] = broken.numbers();
-            [3, rule, x, y, z]
-        }
-        Answer::Refused(refusal) => {
-            let (number, named) = refusal.numbers();
-            [4, number, named, 0, 0]
-        }
+        Answer::RuleBroken(rule, x, y, z) => [3, rule, x, y, z],
+        Answer::Refused(number, named) => [4, number, named, 0, 0],
         Answer::Written(bytes) => [5, bytes, 0, 0, 0],
         Answer::Chain(count) => [6, count, 0, 0, 0],
     }

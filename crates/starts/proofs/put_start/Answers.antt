@@ -10,7 +10,7 @@ use Rattle.starts.proofs.put_start.Goals.{else-next-n-via-then-next-n+else-t-n-n
 -- the next job waits for the end
 pub returns-then-t-n-ne0 : goal.returns-then-t-n-ne0
 returns-then-t-n-ne0 c = λ σ J L e.
-    lent_next L c.requires.1 c.put_row.ensures e J c.if-next-n.true c.if-t-n-ne0.true c.max-ready.ensures c.put_row-then-t-n-ne0.ensures
+    lent_next L c.requires.1 c.put_row.ensures e J c.if-next-n.true c.if-t-n-ne0.true c.later-ready.ensures c.put_row-then-t-n-ne0.ensures
 
 -- no record comes next, or one of another task
 pub returns-else-next-n : goal.returns-else-next-n

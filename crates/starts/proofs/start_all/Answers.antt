@@ -14,8 +14,8 @@ found : (c : In-Some)
     → let t = c.loop-start.t in
     let n = c.args.n in
     Chosen n (max c.loop-start.at c.loop-start.free.least) (column_of n t 5) (column_of n t 1) (column_of n t 12) (column_of n t 11)
-    c.in-Some.start c.in-Some.job
-found c = rw c.max.ensures at (c.next_job.ensures.chosen _ _ c.in-Some.is)
+    c.in-Some.start c.in-Some.k
+found c = rw c.later.ensures at (c.next_job.ensures.chosen _ _ c.in-Some.is)
 
 -- how far the carry of the run at hand has come
 reached : (c : In-Some)
@@ -43,6 +43,12 @@ loop-start-init c =
 
 pub bounds-t-n : goal.bounds-t-n
 bounds-t-n c = let s = (goal.at.bounds-t-n c).In-Some in omega (arith, in_table (reached s) (found s))
+
+pub overflow_add-end : goal.overflow_add-end
+overflow_add-end c = let s = (goal.at.overflow_add-end c).In-Some in let f = in_table (reached s) (found s) in omega (arith, f, f.1.few)
+
+pub offset_bounds-t-n : goal.offset_bounds-t-n
+offset_bounds-t-n c = let s = (goal.at.offset_bounds-t-n c).In-Some in let f = in_table (reached s) (found s) in omega (arith, f, f.1.few)
 
 pub overflow_add-end-in-Some : goal.overflow_add-end-in-Some
 overflow_add-end-in-Some c = let s = (goal.at.overflow_add-end-in-Some c).In-Some in omega (arith, in_table (reached s) (found s))

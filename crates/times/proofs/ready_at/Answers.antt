@@ -7,4 +7,4 @@ pub returns-then-t-n-eq0 : goal.returns-then-t-n-eq0
 returns-then-t-n-eq0 c = λ σ J L. ready_first J L c.requires.1 c.if-t-n-eq0.true
 
 pub returns-else-t-n-eq0 : goal.returns-else-t-n-eq0
-returns-else-t-n-eq0 c = λ σ J L. c.max.ensures ∙ ready_later J L c.requires.1 c.if-t-n-eq0.false
+returns-else-t-n-eq0 c = λ σ J L. c.later.ensures ∙ ready_later J L c.requires.1 c.if-t-n-eq0.false

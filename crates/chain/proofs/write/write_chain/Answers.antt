@@ -19,7 +19,7 @@ overflow_mul-count c =
 pub returns-then-output-count : goal.returns-then-output-count
 returns-then-output-count c ρ T =
     let l = c.requires.0 in
-    says_11 T l (c.why_began-count.ensures ρ _ T (its_chain T l)) _ c.if-output-count.true
+    rw c.from.ensures (says_11 T l (c.why_began-count.ensures ρ _ T (its_chain T l)) _ c.if-output-count.true)
 
 pub why_began-requires : goal.why_began-requires
 why_began-requires c =

@@ -1,12 +1,13 @@
 -- A file that is refused, and one that tells a run. Assumes nothing.
-use mathlib.Core.Path.{◌∙◌, ap}
+use mathlib.Core.Path.{sym, ◌∙◌, ap}
+use borrow.Author.Rules.{rules}
 use Rattle.model.specs.Compute.Verdict.{check}
 use Rattle.openfile.proofs.Leading.{leads_front}
 use Rattle.checkfile.proofs.ByHead.{check_whole, check_refused}
 use Rattle.checkfile.proofs.file.check_file.Goals as goal
 
 pub returns-in-Err : goal.returns-in-Err
-returns-in-Err c = check_refused _ _ _ c.in-Err.ensures
+returns-in-Err c = rw (sym (check_refused _ _ _ c.in-Err.ensures)) (search rules)
 
 pub judge_run-requires : goal.judge_run-requires
 judge_run-requires c = leads_front _ c.tasks_of.ensures

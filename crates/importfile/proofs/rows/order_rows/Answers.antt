@@ -1,10 +1,12 @@
-use borrow.Author.Rules.{rules}
-use Rattle.std.proofs.lemmas.List.Sorted.{answers_always}
-use Rattle.model.specs.Model.{job_of}
-use Rattle.importfile.proofs.InOrder.{in_order}
+-- The keys, and then the order. Assumes nothing.
+use mathlib.Core.Path.{◌∙◌, ap}
+use Rattle.sorting.specs.Sorted.{by_key}
+use Rattle.importfile.proofs.InOrder.{numbers_of, in_rows}
 use Rattle.importfile.proofs.rows.order_rows.Goals as goal
 
 pub returns : goal.returns
-returns c ρ =
-    let sort = c.sort_unstable_by_key.ensures in
-    in_order ρ c.requires sort.permutation (sort.sorted job_of (answers_always _ _ _ (λ f a r g h. search rules)))
+returns c =
+    let (W, O) = c.requires in
+    let keys = c.fill_keys.ensures in
+    let e = c.sort_by.ensures.0 ∙ ap (by_key c.fill_keys.new.keys) O.1 in
+    (numbers_of W keys e, in_rows W keys e)

@@ -12,4 +12,4 @@ loop-c-preserved c =
     let x = c.in-Some in
     let turn =
     zip_turn c.args.core.now c.args.end.now l.yielded c.into_iter-c-iterator.result l.c-iterator c.next.new.self c.next.result (search rules) (search rules) l.yielded_by (x.field-0-0, x.field-0-1) x.is c.next.ensures.steps in
-    rw (length-append, c.max.ensures, turn.2 0, turn.3 0) (one_end l.invariant refl (c.requires.cores (length l.yielded)))
+    rw (length-append, c.later.ensures, turn.2 0, turn.3 0) (one_end l.invariant refl (c.requires.cores (length l.yielded)))

@@ -32,12 +32,14 @@ on_core-no_core-requires c =
 
 pub returns-in-Some : goal.returns-in-Some
 returns-in-Some c ρ I e s =
-    broken ρ one 4 (omega arith) (c.lasted-wrong_length.ensures ρ (c.fill_times.ensures ρ I).lent) c.in-Some.is
+    c.from.ensures
+    ∙ broken ρ one 4 (omega arith) (c.lasted-wrong_length.ensures ρ (c.fill_times.ensures ρ I).lent) c.in-Some.is
 
 pub returns-in-Some-no_core : goal.returns-in-Some-no_core
 returns-in-Some-no_core c ρ I e s =
     let filled = (c.fill_times.ensures ρ I).lent in
-    broken ρ one 5 (omega arith) (c.on_core-no_core.ensures ρ filled (ap (λ σ. σ.cores) e)) c.in-Some-no_core.is
+    c.from-in-Some-no_core.ensures
+    ∙ broken ρ one 5 (omega arith) (c.on_core-no_core.ensures ρ filled (ap (λ σ. σ.cores) e)) c.in-Some-no_core.is
     ∙ sym (past_4 ρ (c.lasted-wrong_length.ensures ρ filled) c.in_default.is)
 
 pub overlapping-requires : goal.overlapping-requires
@@ -48,7 +50,8 @@ overlapping-requires c =
 pub returns-in-Some-overlapping : goal.returns-in-Some-overlapping
 returns-in-Some-overlapping c ρ I e s =
     let filled = (c.fill_times.ensures ρ I).lent in
-    broken ρ two 6 (omega arith) (c.overlapping.ensures ρ filled) c.in-Some-overlapping.is
+    c.from-in-Some-overlapping.ensures
+    ∙ broken ρ two 6 (omega arith) (c.overlapping.ensures ρ filled) c.in-Some-overlapping.is
     ∙ sym (past_4 ρ (c.lasted-wrong_length.ensures ρ filled) c.in_default.is ∙ past_5 ρ (c.on_core-no_core.ensures ρ filled (ap (λ σ. σ.cores) e)) c.in_default-no_core.is)
 
 pub fill_times-requires-2 : goal.fill_times-requires-2

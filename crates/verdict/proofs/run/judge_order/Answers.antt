@@ -21,14 +21,15 @@ past-9 : (ρ : Run) {o : Option ℕ} → option_map one o ≡ find rule9 ρ → 
 past-9 ρ e h = passed ρ one 9 (omega arith) e h
 
 pub returns-in-Some : goal.returns-in-Some
-returns-in-Some c ρ L e s = broken ρ two 7 (omega arith) (c.out_of_order.ensures ρ L) c.in-Some.is
+returns-in-Some c ρ L e s = c.from.ensures ∙ broken ρ two 7 (omega arith) (c.out_of_order.ensures ρ L) c.in-Some.is
 
 pub idling-requires : goal.idling-requires
 idling-requires c = let (ρ, L, e) = c.requires in (ρ, L, ap (λ σ. σ.cores) e)
 
 pub returns-in-Some-idling : goal.returns-in-Some-idling
 returns-in-Some-idling c ρ L e s =
-    broken ρ three 8 (omega arith) (c.idling.ensures ρ L (ap (λ σ. σ.cores) e)) c.in-Some-idling.is
+    c.from-in-Some-idling.ensures
+    ∙ broken ρ three 8 (omega arith) (c.idling.ensures ρ L (ap (λ σ. σ.cores) e)) c.in-Some-idling.is
     ∙ sym (past-7 ρ (c.out_of_order.ensures ρ L) c.in_default.is)
 
 pub out_of_turn-requires : goal.out_of_turn-requires
@@ -36,7 +37,8 @@ out_of_turn-requires c = let (ρ, L, e) = c.requires in (ρ, L)
 
 pub returns-in-Some-out_of_turn : goal.returns-in-Some-out_of_turn
 returns-in-Some-out_of_turn c ρ L e s =
-    broken ρ one 9 (omega arith) (c.out_of_turn.ensures ρ L s) c.in-Some-out_of_turn.is
+    c.from-in-Some-out_of_turn.ensures
+    ∙ broken ρ one 9 (omega arith) (c.out_of_turn.ensures ρ L s) c.in-Some-out_of_turn.is
     ∙ sym (past-7 ρ (c.out_of_order.ensures ρ L) c.in_default.is ∙ past-8 ρ (c.idling.ensures ρ L (ap (λ σ. σ.cores) e)) c.in_default-idling.is)
 
 pub returns : goal.returns

@@ -43,7 +43,8 @@ returns-in-Some c =
     let ρ = run_in c.args.o.file.now in
     let T = c.args.o.tells in
     let L = c.requires.1 in
-    broken ρ one 1 (omega arith) (c.jobs_place.ensures ρ (tells_known T L) (c.read_table.ensures).lent) c.in-Some.is
+    c.from.ensures
+    ∙ broken ρ one 1 (omega arith) (c.jobs_place.ensures ρ (tells_known T L) (c.read_table.ensures).lent) c.in-Some.is
     ∙ sym (verdict_first ρ)
 
 pub fill_times-requires : goal.fill_times-requires
@@ -71,7 +72,8 @@ returns-in-Some-released c =
     let read = c.read_table.ensures in
     let found = c.jobs_place.ensures ρ (tells_known T L) read.lent in
     let I = listed_first L (jobs ρ found c.in_default.is) read in
-    broken ρ one 2 (omega arith) (c.released.ensures ρ (c.fill_times.ensures ρ I).lent) c.in-Some-released.is
+    c.from-in-Some-released.ensures
+    ∙ broken ρ one 2 (omega arith) (c.released.ensures ρ (c.fill_times.ensures ρ I).lent) c.in-Some-released.is
     ∙ sym (verdict_first ρ ∙ past_1 ρ found c.in_default.is)
 
 pub started-requires : goal.started-requires
@@ -91,7 +93,8 @@ returns-in-Some-started c =
     let read = c.read_table.ensures in
     let found = c.jobs_place.ensures ρ (tells_known T L) read.lent in
     let filled = (c.fill_times.ensures ρ (listed_first L (jobs ρ found c.in_default.is) read)).lent in
-    broken ρ one 3 (omega arith) (c.started.ensures ρ filled) c.in-Some-started.is
+    c.from-in-Some-started.ensures
+    ∙ broken ρ one 3 (omega arith) (c.started.ensures ρ filled) c.in-Some-started.is
     ∙ sym (verdict_first ρ ∙ past_1 ρ found c.in_default.is ∙ past_2 ρ (c.released.ensures ρ filled) c.in_default-released.is)
 
 pub judge_lengths-requires : goal.judge_lengths-requires
